@@ -10,7 +10,7 @@ use clocks::Clock;
 use handling::Door;
 use limit_laws::Limit;
 use listening::Closable;
-use operator_serving::{AnswerMemory, Operating, Unwatched, operate};
+use operator_serving::{AnswerMemory, Operating, ServedDesk, Unwatched, operate};
 use shared_gate::{GateNaming, Pass};
 use std::alloc::AllocError;
 use std::sync::Wait;
@@ -75,14 +75,17 @@ where
     fn run(self) -> Pass<M> {
         let Operator {
             common,
-            mut desk,
+            desk,
             buffers,
             also,
         } = self;
+        let rt = desk.rt;
+        let memory = AnswerMemory::new(common.alloc);
         let mut door = Door::new(common.listener, Unwatched {});
-        let mut memory = AnswerMemory::new(common.alloc);
-        operate(desk.rt, common, &mut door, &mut desk, &mut memory, buffers);
-        close_too(desk.rt, also);
+        let mut served = ServedDesk { desk, memory };
+        operate(rt, common, &mut door, &mut served, buffers);
+        close_too(rt, also);
+        let ServedDesk { desk, memory: _ } = served;
         desk.into_pass()
     }
 }

@@ -7,6 +7,7 @@ use Rattle.counted_io.specs.Causes.{IsWriteCause}
 use Rattle.counted_io.specs.Count.{raised}
 use Rattle.counted_io.specs.Counted.{fresh, inner_of}
 use Rattle.counted_io.specs.Effects.{Wrote}
+use Rattle.handling.specs.Handled.{Ends}
 use Rattle.partitions.specs.Table.{Row}
 use Rattle.message_text.specs.declared.persistence.Persistence.TheVariants.{Close}
 use Rattle.message_text.specs.Answer.{answer_text, local_text}
@@ -14,9 +15,10 @@ use Rattle.message_parts.specs.Header.{Header}
 use Rattle.message_parts.specs.declared.request.Request.{Request}
 use Rattle.wire.specs.declared.fault.WireFault.{WireFault}
 use Rattle.proxy.specs.Exchanges.{Bytes, IsRead, known}
-use Rattle.proxy.specs.Made.{counted_with}
+use Rattle.proxy.specs.Made.{counted_with, counts_of}
 use Rattle.proxy.specs.Table.{fault_status, own_or_nothing}
 use Rattle.operator_calls.specs.declared.audience.Audience.{Audience}
+use Rattle.operator_calls.specs.declared.audience.Audience.TheVariants.{Anyone}
 use Rattle.operator_calls.specs.declared.call.Call.{Call}
 use Rattle.operator_calls.specs.declared.call.Call.TheVariants as call
 use Rattle.operator_calls.specs.declared.refusal.Refusal.{Refusal}
@@ -115,6 +117,17 @@ module _ {D : Type 0} (rows : D → List Row) (shows : D → Sight → Type 0)
     pub asked : Counted Bytes
     pub reading : IsRead reader reader' writer writer' (inner_of asked) read
     pub deals : Deals tells audience page old new asked writer' refused refused' read x
+
+  -- CARRIED OUT: an exchange over the two ends of a connection has the counts of these ends; where
+  -- not all was written, a write failed; and at an address for anyone it only looks
+  pub record IsCarriedOut (audience : Audience) (page : List ℕ) (old new : D)
+      (refused refused' : ℕ) (before behind : Ends) (x : Attended) : Type 0 where
+    pub attended : IsAttended (λ _. ⊤) audience page old new before.reader behind.reader
+        before.writer behind.writer refused refused' x
+    pub broken : was_written x ≡ false → IsWriteCause before.writer behind.writer
+    pub reads : reads_of x ≡ counts_of behind.reader
+    pub writes : writes_of x ≡ counts_of behind.writer
+    pub looks : audience ≡ Anyone → HasLooked does old new
 
   -- SERVED by this exchange: it began with what the client would send and with what had been
   -- written to it, over a reader and a writer that weren't called yet; it ended with just the

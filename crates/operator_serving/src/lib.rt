@@ -17,6 +17,7 @@ mod memory;
 mod operating;
 mod protocol;
 mod response;
+mod served_desk;
 mod telling;
 
 pub use attending::{Attended, attend};
@@ -25,3 +26,4 @@ pub use desk::{ChangeFault, Desk};
 pub use memory::AnswerMemory;
 pub use operating::{Operating, operate};
 pub use protocol::{OperatorCalls, Unwatched};
+pub use served_desk::ServedDesk;

@@ -9,10 +9,13 @@ pub enum OperatorCalls {}
 
 impl Protocol<Attended> for OperatorCalls {
     ghost use Rattle.std.specs.Prelude.{false};
+    ghost use Rattle.operator_serving.specs.Attended.{with_sent};
 
     ghost keeps_some = { false };
 
     ghost kept = { λ _. false };
+
+    ghost told_sent = { with_sent };
 
     fn keeps_clients() -> bool {
         false
@@ -20,6 +23,18 @@ impl Protocol<Attended> for OperatorCalls {
 
     fn is_kept(_told: &Attended) -> bool {
         false
+    }
+
+    fn with_sent(told: Attended, is_sent: bool) -> Attended {
+        told.with_sent(is_sent)
+    }
+
+    fn is_answered(told: &Attended) -> bool {
+        told.is_answered()
+    }
+
+    fn is_read(told: &Attended) -> bool {
+        told.is_read()
     }
 }
 

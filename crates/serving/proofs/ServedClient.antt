@@ -1,10 +1,11 @@
 -- An exchange, told by the bytes of a client's two ends.
 use Rattle.std.proofs.Common.{◌≡◌, ◌∙◌, ◌==◌, ℕ, Bool, true, false, List, [], ◌∷◌, Option}
-use Rattle.std.proofs.Common.{Some, None, IfSome, Result, Ok, Err, if◌then◌else◌, ap, sym, subst}
+use Rattle.std.proofs.Common.{IfSome, Result, Ok, Err, if◌then◌else◌, ap, sym, subst}
 use Rattle.std.proofs.Common.{refl, length, ◌&&◌, is_none, zero, suc, arith}
 use Rattle.std.proofs.lemmas.Bool.{eqb-true, false≢true}
-use Rattle.std.specs.Io.KnownBytes.{prepend_known}
 use Rattle.clocks.specs.Looks.{Looked, unlooked}
+use Rattle.client_tokens.specs.Roll.{Seen}
+use Rattle.handling.specs.Handled.{Ends, IsHandled, IsSent, uncalled}
 use Rattle.counted_io.specs.declared.counted.Counted.{Counted}
 use Rattle.counted_io.specs.Causes.{IsWriteCause}
 use Rattle.counted_io.specs.Counted.{fresh, inner_of}
@@ -16,11 +17,12 @@ use Rattle.wire.specs.declared.fault.WireFault.TheVariants as fault
 use Rattle.wire.specs.declared.answer.BackendAnswer.{BackendAnswer}
 use Rattle.proxy.specs.declared.told.CallCounts.{CallCounts}
 use Rattle.proxy.specs.declared.told.Exchange.{Exchange}
+use Rattle.proxy.specs.declared.told.ExchangeSummary.{ExchangeSummary}
 use Rattle.proxy.specs.Exchanges.{Bytes, IsExchange, Policy, World}
 use Rattle.proxy.specs.Keeping.{Persists, is_kept_behind}
-use Rattle.proxy.specs.Made.{counted_with, counts_of, is_kept, keeps_if, reads_of, summary_of}
-use Rattle.proxy.specs.Made.{with_sent, writes_of}
-use Rattle.serving.specs.Served.{Back, IsSent, IsServed, around, told_by_places}
+use Rattle.proxy.specs.Made.{counted_with, is_kept, keeps_if, reads_of, summary_of}
+use Rattle.proxy.specs.Made.{with_sent}
+use Rattle.serving.specs.Served.{Back, IsCarriedOut, IsServed, around, told_by_places}
 
 -- a fault of writing has its cause
 abbrev IsBroken : Counted Bytes → Counted Bytes → Exchange → Type 0
@@ -28,71 +30,57 @@ IsBroken old new x =
     IfSome (summary_of x).written_fault (λ f. (f ≡ fault.Write) × IsWriteCause old new)
 
 -- what stands behind a worker in a world
-abbrev behind : World → Back
-behind world = record {
+abbrev behind_in : World → Back
+behind_in world = record {
   shown = world.shown;
   known = world.known;
   count = world.count;
   log = world.log;
 }
 
--- nothing was called yet there, over a reader and a writer of these bytes
-pub record IsUncalled (world : World) (sent unwritten : Bytes) : Type 0 where
-  pub reader : world.reader ≡ fresh sent
-  pub writer : world.writer ≡ fresh unwritten
-  pub looks : world.looks ≡ unlooked
+-- an exchange that began before any look at the clock
+pub first_looked : (p : Policy) (old new : World) (x : ExchangeSummary) → IsExchange p old new x
+    → old.looks ≡ unlooked
+    → IsExchange p (around old.reader old.writer unlooked (behind_in old)) new x
+first_looked p old new x is none =
+    subst (λ (l : Looked BackendAnswer). IsExchange p
+    (around old.reader old.writer l (behind_in old)) new x) none is
 
--- an exchange has the counts at its end, and a fault of writing has its cause in them
-pub record IsCounted (old new : World) (x : Exchange) : Type 0 where
-  pub broken : IsBroken old.writer new.writer x
-  pub reads : reads_of x ≡ counts_of new.reader
-  pub writes : writes_of x ≡ counts_of new.writer
-
--- an exchange that began where nothing was called, whose counts at its end it has
-over : (s : Policy) (old new : World) (x : Exchange) (first unwritten yet written : Bytes)
-    (sent : Bool) → IsExchange s old new (summary_of x) → IsUncalled old first unwritten
-    → IsCounted old new x → IsSent (inner_of new.writer) written sent
-    → (is_kept (with_sent sent x) ≡ true → yet ≡ inner_of new.reader)
-    → IsServed s first unwritten yet written (behind old) (behind new) (with_sent sent x)
-over s old new x first unwritten yet written sent e uncalled counted ended unread =
-    let begin : World = around (fresh first) (fresh unwritten) unlooked (behind old) in
-    let begun : IsExchange s begin new (summary_of x) =
-    subst (λ (l : Looked BackendAnswer). IsExchange s
-    (around (fresh first) (fresh unwritten) l (behind old)) new (summary_of x)) uncalled.looks
-    (subst (λ (c : Counted Bytes). IsExchange s (around (fresh first) c old.looks (behind old)) new
-    (summary_of x)) uncalled.writer
-    (subst (λ (c : Counted Bytes). IsExchange s (around c old.writer old.looks (behind old)) new
-    (summary_of x)) uncalled.reader e)) in
+-- an exchange that began where nothing was called has the counts of its ends
+over : (p : Policy) (old new : Back) (before behind : Seen) (ends : Ends) (x : Exchange)
+    (sent : Bool) → IsCarriedOut p old new (uncalled before) ends x
+    → IsSent (inner_of ends.writer) behind.written sent
+    → (is_kept (with_sent sent x) ≡ true → behind.sent ≡ inner_of ends.reader)
+    → IsServed p before.sent before.written behind.sent behind.written old new (with_sent sent x)
+over p old new before behind ends x sent is ended unread =
+    let begin : World = around (fresh before.sent) (fresh before.written) unlooked old in
     record {
-      left = inner_of new.reader;
-      given = inner_of new.writer;
-      looks = new.looks;
+      left = inner_of ends.reader;
+      given = inner_of ends.writer;
+      looks = is.looks;
       exchanged =
-          subst (λ (k : CallCounts). IsExchange s begin
-          (around (counted_with (inner_of new.reader) (reads_of x))
-          (counted_with (inner_of new.writer) k) new.looks (behind new)) (summary_of x))
-          (sym counted.writes)
-          (subst (λ (k : CallCounts). IsExchange s begin
-          (around (counted_with (inner_of new.reader) k) new.writer new.looks (behind new))
-          (summary_of x)) (sym counted.reads) begun);
+          subst (λ (k : CallCounts). IsExchange p begin
+          (around (counted_with (inner_of ends.reader) (reads_of x))
+          (counted_with (inner_of ends.writer) k) is.looks new) (summary_of x)) (sym is.writes)
+          (subst (λ (k : CallCounts). IsExchange p begin
+          (around (counted_with (inner_of ends.reader) k) ends.writer is.looks new)
+          (summary_of x)) (sym is.reads) is.exchanged);
       broken =
-          subst (λ (k : CallCounts). IsBroken (fresh unwritten)
-          (counted_with (inner_of new.writer) k) x) (sym counted.writes)
-          (subst (λ (c : Counted Bytes). IsBroken c new.writer x) uncalled.writer counted.broken);
+          subst (λ (k : CallCounts). IsBroken (fresh before.written)
+          (counted_with (inner_of ends.writer) k) x) (sym is.writes) is.broken;
       ended = ended;
       unread = unread;
     }
 
-pub served : (s : Policy) (old new : World) (x y : Exchange) (first unwritten yet written : Bytes)
-    (sent : Bool) → IsExchange s old new (summary_of x) → IsUncalled old first unwritten
-    → IsCounted old new x → IsSent (inner_of new.writer) written sent → y ≡ with_sent sent x
-    → (is_kept y ≡ true → yet ≡ inner_of new.reader)
-    → IsServed s first unwritten yet written (behind old) (behind new) y
-served s old new x y first unwritten yet written sent e uncalled counted ended same unread =
-    subst (λ (told : Exchange). IsServed s first unwritten yet written (behind old) (behind new)
-    told) (sym same)
-    (over s old new x first unwritten yet written sent e uncalled counted ended
-    (λ (kept : is_kept (with_sent sent x) ≡ true). unread (ap is_kept same ∙ kept)))
+-- and so a client was served by it
+pub served : (p : Policy) (old new : Back) (before behind : Seen) (x : Exchange)
+    → IsHandled (IsCarriedOut p old new) with_sent is_kept before behind x
+    → IsServed p before.sent before.written behind.sent behind.written old new x
+served p old new before behind x is =
+    subst (λ (told : Exchange). IsServed p before.sent before.written behind.sent behind.written
+    old new told) (sym is.same)
+    (over p old new before behind is.ends is.first is.sent is.handled is.ended
+    (λ (kept : is_kept (with_sent is.sent is.first) ≡ true). is.unread (ap is_kept is.same ∙ kept)))
 
 -- who isn't drained isn't kept
 undrained : (keeps later : Bool) (request : Request) (answer : Option BackendAnswer)
@@ -112,11 +100,6 @@ kept_drained told false later (Ok request) answer persistence well persists kept
     absurd (false≢true (sym (ap (λ (p : Persistence). keeps_if p well)
     (persists.2 ∙ ap (λ (b : Bool). if b then Keep else Close)
     (undrained persists.0 later request answer))) ∙ kept))
-
--- where nothing is held, what is left below is all
-pub all_left : (below : Bytes) (held : List ℕ) → held ≡ [] → prepend_known held below ≡ below
-all_left None held none = refl
-all_left (Some bytes) held none = ap (λ (xs : List ℕ). prepend_known xs (Some bytes)) none
 
 -- and so what it has yet to send is what its reader has left
 pub nothing_held : (p : Policy) (old new : World) (x y : Exchange) (sent : Bool)

@@ -1,11 +1,11 @@
 -- What it is that a client was served, told by the bytes of its two ends.
-use Rattle.std.specs.Prelude.{◌≡◌, ℕ, zero, suc, Bool, true, false, List, [], Option, Some, None}
+use Rattle.std.specs.Prelude.{◌≡◌, ℕ, zero, suc, Bool, true, false, List, Option, Some, None}
 use Rattle.std.specs.Prelude.{IfSome}
-use Rattle.std.specs.Io.KnownBytes.{append_known}
 use Rattle.clocks.specs.Looks.{Looked, unlooked}
 use Rattle.counted_io.specs.declared.counted.Counted.{Counted}
 use Rattle.counted_io.specs.Causes.{IsWriteCause}
 use Rattle.counted_io.specs.Counted.{fresh}
+use Rattle.handling.specs.Handled.{Ends, IsSent}
 use Rattle.gateway_settings.specs.declared.settings.Settings.{Settings}
 use Rattle.gate_port.specs.Log.{Known}
 use Rattle.gate_port.specs.Shown.{Shown}
@@ -14,7 +14,8 @@ use Rattle.wire.specs.declared.answer.BackendAnswer.{BackendAnswer}
 use Rattle.wire.specs.Forwards.{Forwarded}
 use Rattle.proxy.specs.declared.told.Exchange.{Exchange}
 use Rattle.proxy.specs.Exchanges.{Bytes, IsExchange, Policy, World}
-use Rattle.proxy.specs.Made.{counted_with, is_all_sent, is_kept, reads_of, summary_of, writes_of}
+use Rattle.proxy.specs.Made.{counted_with, counts_of, is_all_sent, is_kept, reads_of, summary_of}
+use Rattle.proxy.specs.Made.{writes_of}
 
 -- what stands behind a worker: the gate's entries where they are shown, what is known of its log
 -- where that is told, how many requests the worker's backend was given, and which where it shows
@@ -47,11 +48,17 @@ around reader writer looks back = record {
   log = back.log;
 }
 
--- what was written is all that the writer was given, but for what it held and didn't send; where
--- it is told that all was sent, it held nothing
-abbrev pub IsSent : Bytes → Bytes → Bool → Type 0
-IsSent given written sent =
-    (held : List ℕ) × (given ≡ append_known written held) × (sent ≡ true → held ≡ [])
+-- CARRIED OUT: an exchange over the two ends of a connection, with no look at the clock before, has
+-- the counts of these ends; a fault of writing has its cause in them
+pub record IsCarriedOut (p : Policy) (old new : Back) (before behind : Ends) (x : Exchange)
+    : Type 0 where
+  pub looks : Looked BackendAnswer
+  pub exchanged : IsExchange p (around before.reader before.writer unlooked old)
+      (around behind.reader behind.writer looks new) (summary_of x)
+  pub broken : IfSome (summary_of x).written_fault (λ f.
+      (f ≡ fault.Write) × IsWriteCause before.writer behind.writer)
+  pub reads : reads_of x ≡ counts_of behind.reader
+  pub writes : writes_of x ≡ counts_of behind.writer
 
 -- SERVED by this exchange: it began with what the client would send and with what had been written
 -- to it, over a reader and a writer that weren't called yet, before any look at the clock; it ended

@@ -4,6 +4,7 @@ ghost use Rattle.serving.specs.Served.{back_of};
 ghost use Rattle.serving.specs.Turns.{place_of};
 ghost use Rattle.serving.specs.Workers.{WorksIn};
 
+use crate::exchanging::Exchanger;
 use crate::reporting::ActiveWorkers;
 use crate::watching::Exchanges;
 use crate::working::{TurnCounts, WorkerSettings, work};
@@ -131,18 +132,13 @@ where
     let common = context.common;
     let Worker {
         mut door,
-        mut port,
-        mut backend,
+        port,
+        backend,
         buffers,
     } = worker;
-    let tally = work(
-        context.rt,
-        common,
-        &mut door,
-        &mut port,
-        &mut backend,
-        buffers,
-    );
+    let mut exchanger = Exchanger { port, backend };
+    let tally = work(context.rt, common, &mut door, &mut exchanger, buffers);
+    let Exchanger { port, backend } = exchanger;
     WorkerExit {
         door,
         port,

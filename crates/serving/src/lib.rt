@@ -15,6 +15,7 @@
 //! client comes at all.
 #![tactic(auto)]
 
+mod exchanging;
 mod fault;
 mod jobs;
 mod laws;
@@ -23,6 +24,7 @@ mod watching;
 mod workers;
 mod working;
 
+pub use exchanging::Exchanger;
 pub use fault::ServeFault;
 pub use jobs::{JobResult, WorkerExit};
 pub use laws::a_visit_reads_each_byte_once;

@@ -10,11 +10,13 @@ pub enum Exchanges {}
 
 impl Protocol<Exchange> for Exchanges {
     ghost use Rattle.std.specs.Prelude.{true};
-    ghost use Rattle.proxy.specs.Made.{is_kept};
+    ghost use Rattle.proxy.specs.Made.{is_kept, with_sent};
 
     ghost keeps_some = { true };
 
     ghost kept = { is_kept };
+
+    ghost told_sent = { with_sent };
 
     fn keeps_clients() -> bool {
         true
@@ -22,6 +24,21 @@ impl Protocol<Exchange> for Exchanges {
 
     fn is_kept(told: &Exchange) -> bool {
         told.is_kept()
+    }
+
+    fn with_sent(told: Exchange, is_sent: bool) -> Exchange {
+        told.with_sent(is_sent)
+    }
+
+    // Without a fault of writing all was sent, by a flush; but that a flush sends all is in no
+    // clause of std's.
+    fn is_answered(told: &Exchange) -> bool {
+        let summary = told.summary();
+        told.is_sent() && summary.answer.is_some() && summary.written_fault.is_none()
+    }
+
+    fn is_read(told: &Exchange) -> bool {
+        told.summary().class.is_some()
     }
 }
 

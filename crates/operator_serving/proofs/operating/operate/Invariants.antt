@@ -13,11 +13,11 @@ invariant-loop g l =
     × record {
       served : AreServed g.D.Desk.rows g.D.Desk.shows g.D.Desk.does (g.A.Accepts.came l.fn.door)
           l.fn.common.audience l.fn.common.page.now
-          (stand l.fn.desk (g.A.Accepts.given l.fn.door) (g.A.Accepts.failed l.fn.door)
-          (refused_of l.fn.memory))
-          (stand l.desk (g.A.Accepts.given l.door) (g.A.Accepts.failed l.door)
-          (refused_of l.memory));
-      looks : l.fn.common.audience ≡ Anyone → AreLooks g.D.Desk.does l.fn.desk l.desk;
+          (stand l.fn.served.desk (g.A.Accepts.given l.fn.door) (g.A.Accepts.failed l.fn.door)
+          (refused_of l.fn.served.memory))
+          (stand l.served.desk (g.A.Accepts.given l.door) (g.A.Accepts.failed l.door)
+          (refused_of l.served.memory));
+      looks : l.fn.common.audience ≡ Anyone → AreLooks g.D.Desk.does l.fn.served.desk l.served.desk;
       came : (sent : Option (List ℕ)) → g.A.Accepts.came l.door sent
           → g.A.Accepts.came l.fn.door sent;
       shut : g.A.Accepts.shut l.door → g.A.Accepts.shut l.fn.door;

@@ -27,21 +27,23 @@ loop-preserved g c = elim c.match-accept.branch [
         (client_of g.A.From.Inlet.remaining g.A.To.Outlet.contents w.in-Ok.client.ends
         w.in-Ok.client.is_kept)
         (client_of g.A.From.Inlet.remaining g.A.To.Outlet.contents
-        w.serve_client-client.result.0.ends (is_kept w.serve_client-client.result.1))
-        w.serve_client-client.result.1 c.loop.invariant.took (search rules) (search rules)
+        w.serve_by_exchange-client.result.0.ends (is_kept w.serve_by_exchange-client.result.1))
+        w.serve_by_exchange-client.result.1 c.loop.invariant.took (search rules) (search rules)
         (record {
           visits = g.A.Accepts.visits c.accept.new.self;
           back = back_of g.P.GatePort.shown g.P.GatePort.known g.B.Backend.forwarded
-              g.B.Backend.shown w.serve_client-client.new.port w.serve_client-client.new.backend;
+              g.B.Backend.shown
+              w.serve_by_exchange-client.new.exchanger.port
+              w.serve_by_exchange-client.new.exchanger.backend;
           given = search rules;
           failed = search rules;
           turn = record {
             unwritten = w.in-Ok.ensures.unwritten;
-            served = w.serve_client-client.ensures;
+            served = w.serve_by_exchange-client.ensures;
             comes = c.loop.invariant.same _ w.in-Ok.ensures.came;
           };
           same = same_back g.P.GatePort.shown g.P.GatePort.known g.B.Backend.forwarded
-              g.B.Backend.shown _ _ _ _ w.leave-in-Ok.new.self w.port-is w.backend-is
+              g.B.Backend.shown _ _ _ _ w.leave-in-Ok.new.self (search rules) (search rules)
               w.leave-in-Ok.ensures.count w.leave-in-Ok.ensures.log;
           arrives = w.in-Ok.ensures.arrived;
           leaves = search rules;

@@ -12,11 +12,11 @@ invariant-loop g l = record {
       (place_of g.A.Accepts.given g.A.Accepts.failed g.A.Accepts.closed g.A.Accepts.visits
       g.A.Accepts.roll
       (back_of g.P.GatePort.shown g.P.GatePort.known g.B.Backend.forwarded g.B.Backend.shown)
-      l.fn.door l.fn.port l.fn.backend)
+      l.fn.door l.fn.exchanger.port l.fn.exchanger.backend)
       (place_of g.A.Accepts.given g.A.Accepts.failed g.A.Accepts.closed g.A.Accepts.visits
       g.A.Accepts.roll
       (back_of g.P.GatePort.shown g.P.GatePort.known g.B.Backend.forwarded g.B.Backend.shown)
-      l.door l.port l.backend)
+      l.door l.exchanger.port l.exchanger.backend)
       l.tally;
   turns : l.tally.accepted + l.tally.unaccepted ≡ l.counter;
   same : (sent : Option (List ℕ)) → g.A.Accepts.came l.door sent → g.A.Accepts.came l.fn.door sent;

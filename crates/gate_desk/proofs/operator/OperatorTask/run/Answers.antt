@@ -10,8 +10,8 @@ pub returns : goal.returns
 returns g c =
     let common = c.args.self.common.now in
     let door = c.new-door.ensures in (
-      stand (state_of c.operate.new.desk) (given_of c.operate.new.door)
-          (failed_of c.operate.new.door) (refused_of c.operate.new.memory),
+      stand (state_of c.operate.new.served.desk) (given_of c.operate.new.door)
+          (failed_of c.operate.new.door) (refused_of c.operate.new.served.memory),
       record {
         served =
             from_nothing _ g.L.Listener.came _ _ _ _ door.opens_to door.given door.failed

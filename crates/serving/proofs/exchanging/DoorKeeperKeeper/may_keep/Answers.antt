@@ -1,6 +1,6 @@
 use Rattle.std.proofs.Common.{refl}
 use Rattle.serving.proofs.ServedClient.{keeps_told}
-use Rattle.serving.proofs.working.DoorKeeperKeeper.may_keep.Goals as goal
+use Rattle.serving.proofs.exchanging.DoorKeeperKeeper.may_keep.Goals as goal
 
 pub returns-then-self-eq0 : goal.returns-then-self-eq0
 returns-then-self-eq0 g c = keeps_told _ _ (λ none. refl)
