@@ -47,7 +47,7 @@ use Rattle.serve_command.specs.GatewayRun.{passes_in, served_by, stood_at}
 use Rattle.serve_command.specs.Worked.{roll_by}
 use Rattle.serve_command.proofs.Clients.{all_ran_in}
 
-module _ {L K N C W : Type 0} (R T V M : Type 0) (m : Making)
+module _ {L K C W : Type 0} (N R T V M : Type 0) (m : Making)
     (came : L → Option (List ℕ) → Type 0) (found : L → Bool → Type 0)
     (roll : L → K → Option Roll) (common : WorkerSettings L C W) where
   abbrev End : Type 0

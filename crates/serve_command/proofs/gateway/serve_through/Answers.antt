@@ -23,7 +23,7 @@ returns-clause-served g c =
     let roll = g.L.Listener.roll in
     let lefts = c.in_ok-lefts.lefts.items in
     let making = g.M.Naming.making in
-    let all = all_ran_to _ _ _ _ making came found roll common c.args.passes.items
+    let all = all_ran_to _ _ _ _ _ making came found roll common c.args.passes.items
     (ended_in lefts) c.requires.unused
     (subst (λ ports. AllZip
     (HasRun came found roll (λ port. None) (λ port. Some (known_by making port)) common) ports
@@ -31,7 +31,7 @@ returns-clause-served g c =
     c.in_ok-ports.ensures c.in_ok-lefts.ensures.ran) in
     let long : length c.args.passes.items ≡ vec_len c.args.passes = search rules in
     let begin = new_desk common.settings.now.table common.listener.now in
-    let gave = gave_turns (roll_in_end _ _ _ _ making came found roll common) (ended_in lefts)
+    let gave = gave_turns (roll_in_end _ _ _ _ _ making came found roll common) (ended_in lefts)
     all.turns (g.L.Listener.gave common.listener.now) (roll common.listener.now
     c.in_ok-back.back.token) c.if_gave_all.result all.rolled c.in_ok-back.ensures.token
     c.if_gave_all.ensures.gave in
@@ -58,7 +58,7 @@ returns-clause-miscounted g c =
     let roll = g.L.Listener.roll in
     let lefts = c.in_ok-lefts.lefts.items in
     let making = g.M.Naming.making in
-    let all = all_ran_to _ _ _ _ making came found roll common c.args.passes.items
+    let all = all_ran_to _ _ _ _ _ making came found roll common c.args.passes.items
     (ended_in lefts) c.requires.unused
     (subst (λ ports. AllZip
     (HasRun came found roll (λ port. None) (λ port. Some (known_by making port)) common) ports
