@@ -1,0 +1,5 @@
+mod Fronts
+mod Joined
+mod OnTheWay
+mod Parts
+mod ReadSoFar

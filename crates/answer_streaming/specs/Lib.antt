@@ -1,0 +1,4 @@
+pub mod Passed
+pub mod Permits
+pub mod Taken
+pub mod Texts

@@ -1,0 +1,25 @@
+//! Answers that are streamed: their bodies are passed on to the client as they arrive.
+//!
+//! [`pass_on`] reads a body from the backend in pieces, writes it to the client, and ends the
+//! permit once: when the body was read to its end, when it broke, or when the client can't be
+//! written to. An [`End`] says which. A body that arrives whole before anything has to be written
+//! is handed back instead, so that a small answer can be written as one that isn't streamed. A
+//! [`Delimiting`] says how the client finds the end of the body: by a length, by chunks, or by the
+//! end of the connection.
+//! `specs/Texts.antt` defines what is written, `specs/Passed.antt` what was read and written, and
+//! `specs/Permits.antt` how the permit is ended.
+#![tactic(auto)]
+
+mod chunk;
+mod delimiting;
+mod ended;
+mod head;
+mod passing;
+mod source;
+mod streaming;
+mod taken;
+
+pub use delimiting::{Delimiting, delimiting_for, finish, write_piece};
+pub use ended::{End, Ending, Passed};
+pub use passing::{StreamedAnswer, pass_on};
+pub use source::Source;

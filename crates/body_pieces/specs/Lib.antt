@@ -1,0 +1,4 @@
+pub mod Beginnings
+pub mod ChunkTexts
+pub mod Laws
+pub mod Rests
