@@ -1,3 +1,4 @@
+mod AsWhole
 mod ChunkPieces
 mod Gathered
 mod JoinedBeginnings

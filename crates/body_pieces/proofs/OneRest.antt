@@ -117,7 +117,8 @@ chunked_one _ bytes r q (IsChunked.chunk_read left _ piece then u _ x all_x is_x
 chunked_one _ bytes r q (IsChunked.chunk_read left _ piece then u _ x all_x is_x)
     (IsChunked.chunk_read _ _ part later v _ y all_y is_y) =
     let both = one_value piece part then later (x ∙ sym y) in
-    let more : IsChunked None then v = subst (λ (l : List ℕ). IsChunked None l v) (sym both.1) all_y in
+    let more : IsChunked None then v =
+    subst (λ (l : List ℕ). IsChunked None l v) (sym both.1) all_y in
     is_x ∙ ap₂ in_front both.0 (chunked_one None then u v all_x more) ∙ sym is_y
 
 pub rest_one : (rest : Rest) → IsOne (IsRest rest)
@@ -127,14 +128,16 @@ rest_one Size bytes r q x y = chunked_one None bytes r q x y
 rest_one (Chunk left) bytes r q x y = chunked_one (Some left) bytes r q x y
 
 -- what whole reading gives, but that there is too much of it, reading in pieces gives
-pub as_whole : (sum : ℕ) (bytes : List ℕ) (r : Reading (List ℕ)) → IsChunks sum bytes r
+pub chunks_as_whole : (sum : ℕ) (bytes : List ℕ) (r : Reading (List ℕ)) → IsChunks sum bytes r
     → (r ≡ Err BodyTooLarge → ⊥) → IsRest Size bytes r
-as_whole sum bytes r (IsChunks.size_fails _ _ f x) other = IsChunked.size_fails bytes f x
-as_whole sum bytes r (IsChunks.passes_most _ m _ rest x some large) other = absurd (other refl)
-as_whole sum bytes r (IsChunks.last_chunk _ _ rest _ x last) other =
+chunks_as_whole sum bytes r (IsChunks.size_fails _ _ f x) other = IsChunked.size_fails bytes f x
+chunks_as_whole sum bytes r (IsChunks.passes_most _ m _ rest x some large) other =
+    absurd (other refl)
+chunks_as_whole sum bytes r (IsChunks.last_chunk _ _ rest _ x last) other =
     IsChunked.last_chunk bytes rest r x last
-as_whole sum bytes r (IsChunks.piece_fails _ m _ rest f x some fits cut) other =
+chunks_as_whole sum bytes r (IsChunks.piece_fails _ m _ rest f x some fits cut) other =
     IsChunked.next_chunk m bytes rest (Err f) x some (IsChunked.chunk_fails m rest f cut)
-as_whole sum bytes r (IsChunks.one_chunk _ m _ rest piece after u _ x some fits given all is) other =
+chunks_as_whole sum bytes r (IsChunks.one_chunk _ m _ rest piece after u _ x some fits given all is)
+    other =
     IsChunked.next_chunk m bytes rest r x some (IsChunked.chunk_read m rest piece after u r given
-    (as_whole (sum + m) after u all (λ e. other (is ∙ ap (in_front piece) e))) is)
+    (chunks_as_whole (sum + m) after u all (λ e. other (is ∙ ap (in_front piece) e))) is)

@@ -97,7 +97,8 @@ module _ (digits : List ℕ) (all : AllDigits 16 digits) (some : 0 < length digi
   printed : line ≡ print_chunk_line whole ++ []
   unfolding print_chunk_line
   printed =
-      ap (λ (l : List ℕ). l ++ codes "\r\n") (sym (append-nil digits) ∙ sym (append-nil (digits ++ [])))
+      ap (λ (l : List ℕ). l ++ codes "\r\n")
+      (sym (append-nil digits) ∙ sym (append-nil (digits ++ [])))
       ∙ sym (append-nil (((digits ++ []) ++ []) ++ codes "\r\n"))
 
   form : IsChunkLine whole
@@ -119,7 +120,8 @@ numeral_few n fits = by_test (n == 0)
     by_test : (t : Bool) → length (if t then 48 ∷ [] else map digit_char (digits_of 16 n)) ≤ 16
     by_test true = omega arith
     by_test false =
-        omega (arith, length-map (digits_of 16 n) digit_char, length-digits_of-le 16 16 n (omega arith) fits)
+        let few = length-digits_of-le 16 16 n (omega arith) fits in
+        omega (arith, length-map (digits_of 16 n) digit_char, few)
 
 numeral_size : (n : ℕ) → n < 2 ^ 64 → (more : List ℕ)
     → IsSize ((numeral 16 n ++ codes "\r\n") ++ more) (Ok (n, more))
@@ -139,8 +141,10 @@ chunk_begins piece some fits =
     subst (λ k. Begins (Chunk n) piece piece (Chunk k)) none (begun_chunk n piece (omega arith)) in
     let front = begun_more Size (Chunk n) (Chunk 0) size piece [] piece
     (begun_size size n some (numeral_size n fits)) body in
-    let all = begun_more Size (Chunk 0) Size (size ++ piece) (codes "\r\n") piece [] front begun_end in
-    subst (λ (p : List ℕ). Begins Size ((size ++ piece) ++ codes "\r\n") p Size) (append-nil piece) all
+    let all = begun_more Size (Chunk 0) Size (size ++ piece) (codes "\r\n") piece [] front
+    begun_end in
+    subst (λ (p : List ℕ). Begins Size ((size ++ piece) ++ codes "\r\n") p Size)
+    (append-nil piece) all
 
 piece_begins : (piece : List ℕ) → length piece < 2 ^ 64
     → Begins Size (piece_in_chunks piece) piece Size

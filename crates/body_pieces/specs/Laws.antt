@@ -1,17 +1,21 @@
 -- Laws of reading in pieces, and of chunks that are written.
-use Rattle.std.specs.Prelude.{◌≡◌, ◌<◌, ◌^◌, ℕ, List, ◌++◌, length, All, Ok, Err}
+use Rattle.std.specs.Prelude.{◌≡◌, ◌<◌, ◌^◌, ℕ, List, ◌++◌, length, All, Option, Some, Ok, Err}
 use Rattle.std.specs.List.{concat}
 use Rattle.message_reading.specs.declared.fault.Fault.TheVariants.{BodyTooLarge, Early}
-use Rattle.message_reading.specs.Chunks.{IsChunks}
+use Rattle.message_reading.specs.declared.framing.Framing.{Framing}
+use Rattle.message_reading.specs.Body.{IsBody, some_body}
 use Rattle.message_reading.specs.Reading.{Reading}
+use Rattle.body_pieces.specs.declared.rest.Rest.{Rest}
 use Rattle.body_pieces.specs.declared.rest.Rest.TheVariants.{Size}
 use Rattle.body_pieces.specs.ChunkTexts.{chunks_text, last_chunk}
-use Rattle.body_pieces.specs.Rests.{IsRest}
+use Rattle.body_pieces.specs.Rests.{IsRest, rest_of}
 
--- AS WHOLE: what whole reading gives, but for its limit on the size, reading in pieces gives
+-- AS WHOLE: what reading a body whole gives, but for its limit on the size, reading it in pieces
+-- gives
 abbrev pub AsWhole : Type 0
-AsWhole = (bytes : List ℕ) (r : Reading (List ℕ)) → IsChunks 0 bytes r
-    → (r ≡ Err BodyTooLarge → ⊥) → IsRest Size bytes r
+AsWhole = (framing : Framing) (rest : Rest) (bytes : List ℕ) (r : Reading (Option (List ℕ)))
+    → rest_of framing ≡ Some rest → IsBody framing bytes r → (r ≡ Err BodyTooLarge → ⊥)
+    → (body : Reading (List ℕ)) × IsRest rest bytes body × (r ≡ some_body body)
 
 -- pieces that memory can hold
 abbrev pub Fit : List (List ℕ) → Type 0

@@ -1,6 +1,8 @@
 -- What reading the rest of a body gives.
 use Rattle.std.specs.Prelude.{◌≡◌, ◌<◌, ℕ, zero, Bool, true, false, Option, Some, None, List, [], Ok, Err}
 use Rattle.message_reading.specs.declared.fault.Fault.{Fault}
+use Rattle.message_reading.specs.declared.framing.Framing.{Framing}
+use Rattle.message_reading.specs.declared.framing.Framing.TheVariants as framing
 use Rattle.message_reading.specs.Reading.{Reading}
 use Rattle.message_reading.specs.PlainBody.{sized_of}
 use Rattle.message_reading.specs.ChunkLines.{trailers_of}
@@ -13,6 +15,13 @@ use Rattle.body_pieces.specs.declared.rest.Rest.TheVariants.{Sized, ToEnd, Size,
 abbrev pub is_ended : Rest → Bool
 is_ended (Sized zero) = true
 is_ended _ = false
+
+-- what is to be read of a body that is delimited so, if there is one
+abbrev pub rest_of : Framing → Option Rest
+rest_of framing.Bodiless = None
+rest_of (framing.Sized size) = Some (Sized size)
+rest_of framing.Chunked = Some Size
+rest_of framing.ToEnd = Some ToEnd
 
 -- CHUNKS: what reading them to their end gives, from the next size on (`None`), or in a chunk of
 -- which so many bytes are left. It is whole reading without a limit on the sum

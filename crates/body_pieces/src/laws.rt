@@ -11,8 +11,8 @@ pub fn rests_have_one_reading()
     ensures { (rest : Rest) → IsOne (IsRest rest) }
 {}
 
-/// Chunks that are read in pieces give what they give read whole.
-#[tactic(auto, using(crate::proofs::OneRest::as_whole))]
+/// A body that is read in pieces gives what it gives read whole, if that isn't `BodyTooLarge`.
+#[tactic(auto, using(crate::proofs::AsWhole::as_whole))]
 pub fn pieces_are_the_whole()
     ensures { AsWhole }
 {}

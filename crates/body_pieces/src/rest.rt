@@ -1,6 +1,8 @@
 // What is still to be read of a body.
 ghost use Rattle.std.specs.Prelude.{◌≡◌};
-ghost use Rattle.body_pieces.specs.Rests.{is_ended};
+ghost use Rattle.body_pieces.specs.Rests.{is_ended, rest_of};
+
+use message_reading::Framing;
 
 /// What is still to be read of a body.
 #[derive(Clone, Copy, Drop, PartialEq, Eq)]
@@ -16,6 +18,18 @@ pub enum Rest {
 }
 
 impl Rest {
+    /// Returns what is to be read of a body that is delimited so, or nothing if there is no body.
+    pub fn of(framing: Framing) -> Option<Rest>
+        ensures { result ≡ rest_of framing }
+    {
+        match framing {
+            Framing::Bodiless => None,
+            Framing::Sized(size) => Some(Rest::Sized(size as u64)),
+            Framing::Chunked => Some(Rest::Size),
+            Framing::ToEnd => Some(Rest::ToEnd),
+        }
+    }
+
     /// Returns whether nothing is left to be read.
     pub fn is_ended(&self) -> bool
         ensures { result ≡ is_ended self.now }

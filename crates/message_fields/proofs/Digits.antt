@@ -34,7 +34,7 @@ one_digit_more text i size digits inside value =
     omega (arith, worth, value, digits_value_more 10 text i inside)
 
 -- where the first digits tell too much, all do
-pub too_large : (text : List ℕ) (i : ℕ) → 8388608 < digits_value 10 (take i text)
-    → Err fault.TooLarge ≡ limited (digits_value 10 text)
-too_large text i much =
-    let most = digits_value-take-le 10 text i (omega arith) in grind (arith, nat_tests)
+pub too_large : (most : ℕ) (text : List ℕ) (i : ℕ) → most < digits_value 10 (take i text)
+    → Err fault.TooLarge ≡ limited most (digits_value 10 text)
+too_large most text i much =
+    let all = digits_value-take-le 10 text i (omega arith) in grind (arith, nat_tests)

@@ -12,7 +12,7 @@ use Rattle.std.proofs.lemmas.Slice.Eq.{bytes_eq-Decides}
 use Rattle.message_parts.specs.Header.{Header}
 use Rattle.message_fields.specs.Lines.{is_named, count_named, first_value}
 use Rattle.message_fields.specs.Parts.{is_blank, parts, parts_named, trimmed, trimmed_end}
-use Rattle.message_fields.specs.Lengths.{digits_first, digits_length, is_digits, length_of, limited}
+use Rattle.message_fields.specs.Lengths.{digits_first, digits_length, is_digits, length_within, limited}
 use Rattle.message_fields.proofs.Digits.{digit_at}
 
 -- a digit is no blank and no comma
@@ -84,14 +84,14 @@ one_line name (line ∷ lines) value found one =
     ] found (sym (count_more name line lines) ∙ one)
 
 -- of one line whose value is digits the length is theirs
-pub length_alone : (lines : List Header) (value : List ℕ)
+pub length_alone : (most : ℕ) (lines : List Header) (value : List ℕ)
     → count_named (codes "content-length") lines ≡ 1
     → first_value (codes "content-length") lines ≡ Some value → is_digits value ≡ true
-    → limited (digits_value 10 value) ≡ length_of lines
-length_alone lines value one found digits =
+    → limited most (digits_value 10 value) ≡ length_within most lines
+length_alone most lines value one found digits =
     let all : parts_named (codes "content-length") lines ≡ value ∷ [] =
     one_line (codes "content-length") lines value found one ∙ digits_part value digits in
     let same : bytes_eq value value ≡ true = (bytes_eq-Decides value value).1 refl in
     let only : digits_first (value ∷ []) (Some value) ≡ Some value = rw (digits, same) refl in
-    ap digits_length
+    ap (digits_length most)
     (sym (ap (λ (ps : List (List ℕ)). digits_first ps (slice_get ps 0)) all ∙ only))

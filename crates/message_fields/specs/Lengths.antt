@@ -23,15 +23,19 @@ abbrev pub length_digits : List Header → Option (List ℕ)
 length_digits lines =
     let parts = parts_named (codes "content-length") lines in digits_first parts (slice_get parts 0)
 
--- a body has at most 8,388,608 bytes
-abbrev pub limited : ℕ → Result ℕ LengthFault
-limited size = if nat_le size 8388608 then Ok size else Err fault.TooLarge
+-- a body has at most so many bytes
+abbrev pub limited : ℕ → ℕ → Result ℕ LengthFault
+limited most size = if nat_le size most then Ok size else Err fault.TooLarge
 
 -- the length that the digits give
-abbrev pub digits_length : Option (List ℕ) → Result ℕ LengthFault
-digits_length None = Err fault.Malformed
-digits_length (Some digits) = limited (digits_value 10 digits)
+abbrev pub digits_length : ℕ → Option (List ℕ) → Result ℕ LengthFault
+digits_length most None = Err fault.Malformed
+digits_length most (Some digits) = limited most (digits_value 10 digits)
 
--- the length of the body that follows lines with a Content-Length
-abbrev pub length_of : List Header → Result ℕ LengthFault
-length_of lines = digits_length (length_digits lines)
+-- the length of the body that follows lines with a Content-Length, which is at most so many bytes
+abbrev pub length_within : ℕ → List Header → Result ℕ LengthFault
+length_within most lines = digits_length most (length_digits lines)
+
+-- the greatest number of bytes of a body that is read whole
+abbrev pub most_body : ℕ
+most_body = 8388608

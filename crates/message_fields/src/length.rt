@@ -5,14 +5,14 @@ ghost use Rattle.std.specs.List.{list_all};
 ghost use Rattle.std.specs.Str.Parse.{digits_value};
 ghost use Rattle.message_fields.specs.Lines.{count_named, is_named};
 ghost use Rattle.message_fields.specs.Parts.{parts, parts_named};
-ghost use Rattle.message_fields.specs.Lengths.{is_digits, limited, length_digits, length_of};
+ghost use Rattle.message_fields.specs.Lengths.{is_digits, limited, length_digits, length_within};
 
 use super::fields::is_content_length;
 use super::lines::first_length;
 use super::parts::{first_part, is_every_part};
 use message_parts::Header;
 
-/// The greatest number of bytes of a body.
+/// The greatest number of bytes of a body that is read whole.
 pub const MOST_BODY: u64 = 8_388_608;
 
 /// Why the lines of Content-Length give no length.
@@ -20,7 +20,7 @@ pub const MOST_BODY: u64 = 8_388_608;
 pub enum LengthFault {
     /// Their parts are not all the same string of digits, or there is no line.
     Malformed,
-    /// The length is above 8,388,608 bytes.
+    /// The length is above the greatest one that a body may have.
     TooLarge,
 }
 
@@ -76,41 +76,41 @@ pub fn length_digits(lines: &[Header]) -> Option<&[u8]>
     }
 }
 
-/// The length of the body behind lines with a Content-Length.
+/// Returns the length of the body behind lines with a Content-Length, at most `most` bytes.
 ///
-/// `Malformed` where their parts, cut at commas, are not all the same string of one or more digits;
-/// then `TooLarge` where the length is above 8,388,608.
-pub fn length_of(lines: &[Header]) -> Result<usize, LengthFault>
-    ensures { result ≡ length_of lines.now }
+/// It returns `Malformed` if their parts, cut at commas, are not all the same string of one or more
+/// digits, and then `TooLarge` if the length is above `most`.
+pub fn length_of(lines: &[Header], most: u64) -> Result<usize, LengthFault>
+    ensures { result ≡ length_within most lines.now }
 {
     let Some(digits) = length_digits(lines) else {
         return Err(LengthFault::Malformed);
     };
-    value_of(digits)
+    value_of(digits, most)
 }
 
-/// The same as [`length_of`], where one line alone is Content-Length, as in most heads. A value
+/// Returns what [`length_of`] does if one line alone is Content-Length, as in most heads. A value
 /// that is digits alone, as most are, isn't cut at commas, and no other line has to agree with it.
 #[tactic(auto, using(crate::proofs::OnePart::length_alone))]
-pub fn length_of_one(lines: &[Header]) -> Result<usize, LengthFault>
+pub fn length_of_one(lines: &[Header], most: u64) -> Result<usize, LengthFault>
     requires one { count_named (codes "content-length") lines.now ≡ 1 }
-    ensures { result ≡ length_of lines.now }
+    ensures { result ≡ length_within most lines.now }
 {
     match first_length(lines) {
-        Some(value) if is_digits(value) => value_of(value),
-        _ => length_of(lines),
+        Some(value) if is_digits(value) => value_of(value, most),
+        _ => length_of(lines, most),
     }
 }
 
-/// The value of digits, up to the greatest length of a body.
-fn value_of(digits: &[u8]) -> Result<usize, LengthFault>
+/// Returns the value of digits, which is at most `most`.
+fn value_of(digits: &[u8], most: u64) -> Result<usize, LengthFault>
     requires { is_digits digits.now ≡ true }
-    ensures { result ≡ limited (digits_value 10 digits.now) }
+    ensures { result ≡ limited most (digits_value 10 digits.now) }
 {
     let mut size = 0;
     for digit in digits {
-        size = size * 10 + u64::from(*digit - b'0');
-        if size > MOST_BODY {
+        size = size * 10 + u128::from(*digit - b'0');
+        if size > u128::from(most) {
             return Err(LengthFault::TooLarge);
         }
     }

@@ -10,6 +10,7 @@ use crate::head_bytes::read_head;
 use crate::head_cut::{FirstCut, Kept};
 use crate::request_head::{RequestHead, head_at, parse_request};
 use counted_io::Counted;
+use message_fields::MOST_BODY;
 use std::alloc::Global;
 use std::io::BufRead;
 
@@ -44,7 +45,7 @@ pub fn read_checked_head<R: BufRead>(
     ensures reads { once_more limit (calls_of reader.old) ≤ calls_of reader.new }
 {
     let head = read_request_head(alloc, reader, limit)?;
-    match frame_request(&head) {
+    match frame_request(&head, MOST_BODY) {
         Ok(framing) => Ok((head, framing)),
         Err(fault) => Err(MessageFault::Bytes(fault)),
     }

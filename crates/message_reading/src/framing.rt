@@ -1,8 +1,9 @@
 // How the body of a message is delimited, and the checks of a head before that.
 ghost use Rattle.std.specs.Prelude.{◌≡◌, codes};
 ghost use Rattle.message_fields.specs.Lines.{count_named};
-ghost use Rattle.message_fields.specs.Lengths.{length_of};
-ghost use Rattle.message_reading.specs.Framing.{coded, hosts_fit, lengths_of, is_refused, request_framing, response_framing, sized};
+ghost use Rattle.message_fields.specs.Lengths.{length_within};
+ghost use Rattle.message_reading.specs.Framing.{coded, hosts_fit, is_refused, lengths_of, sized};
+ghost use Rattle.message_reading.specs.Framing.{request_framing_within, response_framing_within};
 
 use crate::fault::Fault;
 use crate::request_head::RequestHead;
@@ -18,7 +19,7 @@ use message_parts::{Header, Method};
 pub enum Framing {
     /// There is no body.
     Bodiless,
-    /// The body has so many bytes, at most 8,388,608.
+    /// The body has so many bytes, at most the number that was given as the greatest one.
     Sized(usize),
     /// The body comes in chunks.
     Chunked,
@@ -41,23 +42,23 @@ fn coded(minor: u8, lines: &[Header]) -> Result<Framing, Fault>
 }
 
 // The length that so many lines give.
-fn length_by(lines: &[Header], lengths: usize) -> Result<usize, LengthFault>
+fn length_by(lines: &[Header], lengths: usize, most: u64) -> Result<usize, LengthFault>
     requires { lengths ≡ count_named (codes "content-length") lines.now }
-    ensures { result ≡ length_of lines.now }
+    ensures { result ≡ length_within most lines.now }
 {
     if lengths == 1 {
-        length_of_one(lines)
+        length_of_one(lines, most)
     } else {
-        length_of(lines)
+        length_of(lines, most)
     }
 }
 
 // By a length, which so many lines tell.
-fn sized(lines: &[Header], lengths: usize) -> Result<Framing, Fault>
+fn sized(lines: &[Header], lengths: usize, most: u64) -> Result<Framing, Fault>
     requires { lengths ≡ count_named (codes "content-length") lines.now }
-    ensures { result ≡ sized lines.now }
+    ensures { result ≡ sized most lines.now }
 {
-    match length_by(lines, lengths) {
+    match length_by(lines, lengths, most) {
         Ok(size) => Ok(Framing::Sized(size)),
         Err(LengthFault::TooLarge) => Err(Fault::BodyTooLarge),
         Err(LengthFault::Malformed) => Err(Fault::Malformed),
@@ -65,8 +66,8 @@ fn sized(lines: &[Header], lengths: usize) -> Result<Framing, Fault>
 }
 
 // By the lines of a head; `without` where they say nothing.
-fn lengths_of(minor: u8, lines: &[Header], without: Framing) -> Result<Framing, Fault>
-    ensures { result ≡ lengths_of minor lines.now without }
+fn lengths_of(minor: u8, lines: &[Header], without: Framing, most: u64) -> Result<Framing, Fault>
+    ensures { result ≡ lengths_of most minor lines.now without }
 {
     let (codings, lengths) = count_codings_and_lengths(lines);
     if codings > 0 && lengths > 0 {
@@ -76,7 +77,7 @@ fn lengths_of(minor: u8, lines: &[Header], without: Framing) -> Result<Framing, 
         return coded(minor, lines);
     }
     if lengths > 0 {
-        return sized(lines, lengths);
+        return sized(lines, lengths, most);
     }
     Ok(without)
 }
@@ -95,12 +96,13 @@ fn hosts_fit(minor: u8, hosts: usize) -> bool
     hosts == 1 || (hosts == 0 && minor == 0)
 }
 
-/// How the body of a request is delimited, once its head passes the checks.
+/// Returns how the body of a request is delimited, which has at most `most` bytes, once its head
+/// passes the checks.
 ///
 /// `Method` for CONNECT and TRACE; then `Malformed` for a target that doesn't fit the method; then
 /// `Malformed` for another number of Host lines than the version wants; then the faults of lengths.
-pub(crate) fn frame_request(head: &RequestHead) -> Result<Framing, Fault>
-    ensures { result ≡ request_framing head.now }
+pub(crate) fn frame_request(head: &RequestHead, most: u64) -> Result<Framing, Fault>
+    ensures { result ≡ request_framing_within most head.now }
 {
     let method = head.method.as_slice();
     let lines = head.lines.as_slice();
@@ -113,18 +115,21 @@ pub(crate) fn frame_request(head: &RequestHead) -> Result<Framing, Fault>
     if !hosts_fit(head.minor, count_hosts(lines)) {
         return Err(Fault::Malformed);
     }
-    lengths_of(head.minor, lines, Framing::Bodiless)
+    lengths_of(head.minor, lines, Framing::Bodiless, most)
 }
 
-/// How the body of a response to a request of this method is delimited.
+/// Returns how the body of a response to a request of this method is delimited, which has at most
+/// `most` bytes.
 ///
-/// To HEAD, and with the status 204 or 304, there is none, whatever the lines say.
-pub fn frame_response(method: &Method, head: &ResponseHead) -> Result<Framing, Fault>
-    ensures { result ≡ response_framing method.now head.now }
+/// To HEAD, and with the status 204 or 304, there is none, whatever the lines say. Otherwise the
+/// faults are those of lengths: `BodyTooLarge` is a `Content-Length` above `most`. Chunks, and a
+/// body that runs to the end of the connection, say no length.
+pub fn frame_response(method: &Method, head: &ResponseHead, most: u64) -> Result<Framing, Fault>
+    ensures { result ≡ response_framing_within most method.now head.now }
 {
     let is_head = method.as_slice() == b"HEAD".as_slice();
     if is_head || head.status == 204 || head.status == 304 {
         return Ok(Framing::Bodiless);
     }
-    lengths_of(head.minor, head.lines.as_slice(), Framing::ToEnd)
+    lengths_of(head.minor, head.lines.as_slice(), Framing::ToEnd, most)
 }

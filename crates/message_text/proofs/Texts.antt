@@ -12,7 +12,8 @@ use Rattle.message_fields.specs.Target.{authority_of, ends_authority, forwarded_
 use Rattle.message_text.specs.Line.{line_of, line_text, lines_text, close_lines}
 use Rattle.message_text.specs.Forwarded.{ForwardedValue, hosted, host_lines, length_lines, via_line, first_text, forwarded_lines, forwarded_text}
 use Rattle.message_text.specs.declared.persistence.Persistence.{Persistence}
-use Rattle.message_text.specs.Answer.{AnswerValue, told_lines, answer_lines, answer_text, phrase_of, status_text, written_body, local_text, marked_text}
+use Rattle.message_text.specs.Answer.{AnswerValue, answer_lines, answer_text, front_text, local_text, marked_text, phrase_of, status_text, told_lines, written_body}
+use Rattle.message_text.specs.Laws.{BeginsWithItsFront}
 
 -- a front was written, and then the rest
 pub wrote_then : {T E : Type 0} (r : Result T E) (a b c : Option (List ℕ)) (x y text : List ℕ)
@@ -42,7 +43,7 @@ unfolding status_text
 status_pieces status = simp (append_assoc, append-nil)
 
 -- the lines of an answer and the empty line, in two pieces
-pub answer_pieces : (answer : AnswerValue)
+answer_pieces : (answer : AnswerValue)
     → lines_text (answer_lines answer) ++ codes "\r\n"
     ≡ lines_text (response_lines answer.headers)
     ++ (lines_text (told_lines answer)
@@ -59,13 +60,42 @@ answer_pieces answer =
     ∙ append_assoc (lines_text one ++ lines_text two) (lines_text last) (codes "\r\n")
     ∙ append_assoc (lines_text one) (lines_text two) (lines_text last ++ codes "\r\n")
 
--- an answer, in three pieces
-pub answer_whole : (answer : AnswerValue)
+-- the front of an answer, in two pieces
+pub front_pieces : (status : ℕ) (headers : List Header)
+    → front_text status headers ≡ status_text status ++ lines_text (response_lines headers)
+unfolding front_text
+front_pieces status headers = refl
+
+-- an answer, by its lines
+answer_by_lines : (answer : AnswerValue)
     → answer_text answer
     ≡ (status_text answer.status ++ (lines_text (answer_lines answer) ++ codes "\r\n"))
     ++ unwrap_or (written_body answer) []
 unfolding answer_text
-answer_whole answer = simp (append_assoc, append-nil)
+answer_by_lines answer = simp (append_assoc, append-nil)
+
+-- an answer, in three pieces
+pub answer_whole : (answer : AnswerValue)
+    → answer_text answer
+    ≡ (front_text answer.status answer.headers ++ (lines_text (told_lines answer)
+    ++ (lines_text (close_lines answer.persistence) ++ codes "\r\n")))
+    ++ unwrap_or (written_body answer) []
+unfolding front_text
+answer_whole answer =
+    let first = status_text answer.status in
+    let kept = lines_text (response_lines answer.headers) in
+    let told : List ℕ = lines_text (told_lines answer)
+    ++ (lines_text (close_lines answer.persistence) ++ codes "\r\n") in
+    let body = unwrap_or (written_body answer) [] in
+    answer_by_lines answer
+    ∙ ap (λ (t : List ℕ). (first ++ t) ++ body) (answer_pieces answer)
+    ∙ ap (λ (t : List ℕ). t ++ body) (sym (append_assoc first kept told))
+
+-- an answer begins with its front
+pub begins_with_front : (answer : AnswerValue) → BeginsWithItsFront answer
+begins_with_front answer =
+    let split = lines_text-append (told_lines answer) (close_lines answer.persistence) in
+    answer_whole answer ∙ (rw split (simp (append_assoc, append-nil)))
 
 -- the gateway's own answer, in two pieces
 pub local_whole : (persistence : Persistence) (status : ℕ)

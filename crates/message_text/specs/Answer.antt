@@ -64,6 +64,11 @@ unfoldable pub status_text : ℕ → List ℕ
 status_text status =
     concat (codes "HTTP/1.1 " ∷ decimal status ∷ codes " " ∷ phrase_of status ∷ codes "\r\n" ∷ [])
 
+-- THE FRONT of an answer: its first line, and the lines of the response that are passed on, without
+-- those that tell how the body ends and whether the connection does
+unfoldable pub front_text : ℕ → List Header → List ℕ
+front_text status headers = status_text status ++ lines_text (response_lines headers)
+
 -- the answer as it is written
 unfoldable pub answer_text : AnswerValue → List ℕ
 answer_text answer =

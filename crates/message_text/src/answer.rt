@@ -8,7 +8,8 @@ ghost use Rattle.message_text.specs.Line.{close_lines, line_of, lines_text};
 ghost use Rattle.message_text.specs.Fronts.{WroteFront};
 ghost use Rattle.message_fields.specs.Lengths.{length_digits};
 ghost use Rattle.message_text.specs.Forwarded.{lent};
-ghost use Rattle.message_text.specs.Answer.{seen, is_bodiless, written_body, received_lines, told_lines, answer_lines, status_text, answer_text, local_text, marked_text};
+ghost use Rattle.message_text.specs.Answer.{seen, is_bodiless, written_body, received_lines, told_lines};
+ghost use Rattle.message_text.specs.Answer.{answer_text, front_text, local_text, marked_text, status_text};
 
 use super::lines::{bytes_of, write_length, write_line, write_response_lines};
 use super::number::write_decimal;
@@ -72,6 +73,29 @@ fn write_status<W: Write>(writer: &mut Counted<W>, status: u16) -> Result<(), Wr
     write_all(writer, b" ")?;
     write_all(writer, phrase_of(status).as_bytes())?;
     write_all(writer, b"\r\n")
+}
+
+/// Writes the beginning of an answer with this status: its first line, and those header lines that
+/// are passed on. It doesn't flush.
+///
+/// Lines that tell how the body ends and whether the connection does aren't among them. The one
+/// fault comes where the writer failed; then a beginning of the text was written.
+pub fn write_front<W: Write>(
+    writer: &mut Counted<W>,
+    status: u16,
+    headers: &[Header],
+) -> Result<(), WriteFault>
+    requires three_digits { (100 ≤ status) × (status ≤ 999) }
+    ensures all { OnOk result (Wrote W.contents writer.old writer.new
+        (front_text status headers.now)) }
+    ensures unfailing { OnOk result (failures_of writer.new ≡ failures_of writer.old) }
+    ensures front { OnErr result (WroteFront W.contents writer.old writer.new
+        (front_text status headers.now)) }
+    ensures failed { OnErr result (IsWriteCause writer.old writer.new) }
+    ensures flushes { flushes_of writer.new ≡ flushes_of writer.old }
+{
+    write_status(writer, status)?;
+    write_response_lines(writer, headers)
 }
 
 /// Whether no body is written to this method or with this status.
@@ -142,21 +166,6 @@ impl Answer<'_> {
         }
     }
 
-    /// Writes the lines of the answer, and the empty line behind them.
-    fn write_lines<W: Write>(&self, writer: &mut Counted<W>) -> Result<(), WriteFault>
-        ensures all { OnOk result
-            (Wrote W.contents writer.old writer.new
-            (lines_text (answer_lines (seen self.now)) ++ codes "\r\n")) }
-        ensures unfailing { OnOk result (failures_of writer.new ≡ failures_of writer.old) }
-        ensures front { OnErr result (WroteFront W.contents writer.old writer.new
-            (lines_text (answer_lines (seen self.now)) ++ codes "\r\n")) }
-        ensures failed { OnErr result (IsWriteCause writer.old writer.new) }
-        ensures flushes { flushes_of writer.new ≡ flushes_of writer.old }
-    {
-        write_response_lines(writer, self.headers)?;
-        self.write_last(writer)
-    }
-
     /// Writes the answer, and flushes once.
     ///
     /// The one fault comes where the writer failed; then a beginning of the text was written.
@@ -171,8 +180,8 @@ impl Answer<'_> {
             (answer_text (seen self.now))) }
         ensures failed { OnErr result (IsWriteCause writer.old writer.new) }
     {
-        write_status(writer, self.status)?;
-        self.write_lines(writer)?;
+        write_front(writer, self.status, self.headers)?;
+        self.write_last(writer)?;
         write_and_flush(writer, bytes_of(self.written_body()))
     }
 }

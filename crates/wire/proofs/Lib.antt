@@ -1,3 +1,4 @@
+mod BegunResponses
 mod OneReading
 mod Paths
 mod MessagePhases

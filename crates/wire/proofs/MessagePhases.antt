@@ -1,28 +1,25 @@
 -- Phases, one behind the other, and what a call tells of them.
-use Rattle.std.proofs.Common.{rules, ◌≡◌, refl, ℕ, List}
+use Rattle.std.proofs.Common.{rules, ◌≡◌, ℕ, List}
 use Rattle.std.specs.Prelude.{Option, Some, None, Result, Ok, Err, IfSome}
 use Rattle.message_reading.specs.declared.fault.Fault.{Fault}
 use Rattle.message_reading.specs.declared.fault.Fault.TheVariants as own
 use Rattle.message_reading.specs.declared.fault.MessageFault.{MessageFault}
 use Rattle.message_reading.specs.declared.fault.MessageFault.TheVariants.{Memory, Read, TurnLimit, Bodies, Bytes}
-use Rattle.message_reading.specs.Reading.{By, Fails, Reading, Then, checked}
+use Rattle.message_reading.specs.Reading.{Fails, Reading, Then}
 use Rattle.message_reading.specs.Reading as bytes
 use Rattle.message_reading.specs.declared.request_head.RequestHead.{RequestHead}
-use Rattle.message_reading.specs.declared.response_head.ResponseHead.{ResponseHead}
 use Rattle.message_reading.specs.declared.framing.Framing.{Framing}
-use Rattle.message_reading.specs.Framing.{response_framing}
-use Rattle.message_reading.specs.Heads.{IsCheckedHead, IsFinalHead}
+use Rattle.message_reading.specs.Heads.{IsCheckedHead}
 use Rattle.message_reading.specs.Body.{IsBody, IsWithBody}
 use Rattle.wire.specs.declared.fault.WireFault.{WireFault}
 use Rattle.wire.specs.declared.fault.WireFault.TheVariants as fault
 use Rattle.message_parts.specs.declared.request.Request.{Request}
 use Rattle.wire.specs.Fault.{Gives, bytes_fault, of_bytes, of_read}
-use Rattle.wire.specs.Messages.{IsRequest, IsResponse, IsResponseRest, request_of, response_of}
-use Rattle.wire.specs.Response.{ResponseValue}
+use Rattle.wire.specs.Messages.{IsRequest, request_of}
 
 module _ {X A : Type 0} (view : X → A) (First : List ℕ → Reading A → Type 0) where
   module _ {Y B : Type 0} (seen : Y → B) (Next : A → List ℕ → Reading B → Type 0) where
-    then_fault : (old mid : Option (List ℕ)) (f : MessageFault)
+    pub then_fault : (old mid : Option (List ℕ)) (f : MessageFault)
         → bytes.Gives view First old mid (Err f)
         → bytes.Gives seen (Then First Next) old mid (Err f)
     then_fault None mid f given = search rules
@@ -32,7 +29,7 @@ module _ {X A : Type 0} (view : X → A) (First : List ℕ → Reading A → Typ
     then_fault (Some xs) mid Bodies given = search rules
     then_fault (Some xs) mid (Bytes f) given = Then.first_fails xs f given
 
-    then_next : (old mid new : Option (List ℕ)) (x : X) (result : Result Y MessageFault)
+    pub then_next : (old mid new : Option (List ℕ)) (x : X) (result : Result Y MessageFault)
         → bytes.Gives view First old mid (Ok x) → bytes.Gives seen (Next (view x)) mid new result
         → bytes.Gives seen (Then First Next) old new result
     then_next None mid new x result one two = search rules
@@ -58,13 +55,13 @@ told_bytes Is xs own.BothLengths is = is
 told_bytes Is xs own.Method is = is
 
 module _ {X V : Type 0} (view : X → V) (Is : List ℕ → Reading V → Type 0) where
-  tells_ok : (old new : Option (List ℕ)) (x : X) → bytes.Gives view Is old new (Ok x)
+  pub tells_ok : (old new : Option (List ℕ)) (x : X) → bytes.Gives view Is old new (Ok x)
       → Gives view Is old new (Ok x)
   tells_ok None new x given = search rules
   tells_ok (Some xs) None x given = absurd given
   tells_ok (Some xs) (Some ys) x given = given
 
-  tells_err : (old new : Option (List ℕ)) (e : MessageFault) (w : WireFault) → w ≡ of_read e
+  pub tells_err : (old new : Option (List ℕ)) (e : MessageFault) (w : WireFault) → w ≡ of_read e
       → bytes.Gives view Is old new (Err e) → Gives view Is old new (Err w)
   tells_err None new e w is given = search rules
   tells_err (Some xs) new Memory w is given = rw is tt
@@ -73,19 +70,19 @@ module _ {X V : Type 0} (view : X → V) (Is : List ℕ → Reading V → Type 0
   tells_err (Some xs) new Bodies w is given = rw is tt
   tells_err (Some xs) new (Bytes f) w is given = rw is (told_bytes Is xs f given)
 
-abbrev GivesBody : Framing → Option (List ℕ) → Option (List ℕ)
+abbrev pub GivesBody : Framing → Option (List ℕ) → Option (List ℕ)
     → Result (Option (List ℕ)) MessageFault → Type 0
 GivesBody framing = bytes.Gives {X = Option (List ℕ)} (λ body. body) (IsBody framing)
 
 module _ {V : Type 0} (make : Option (List ℕ) → V) (framing : Framing) where
-  body_made : (old new : Option (List ℕ)) (body : Option (List ℕ)) (v : V) → v ≡ make body
+  pub body_made : (old new : Option (List ℕ)) (body : Option (List ℕ)) (v : V) → v ≡ make body
       → GivesBody framing old new (Ok body)
       → bytes.Gives {X = V} (λ v. v) (IsWithBody make framing) old new (Ok v)
   body_made None new body v is given = search rules
   body_made (Some xs) None body v is given = absurd given
   body_made (Some xs) (Some ys) body v is given = rw is (IsWithBody.body_read xs ys body given)
 
-  body_cut : (old new : Option (List ℕ)) (e : MessageFault) → GivesBody framing old new (Err e)
+  pub body_cut : (old new : Option (List ℕ)) (e : MessageFault) → GivesBody framing old new (Err e)
       → bytes.Gives {X = V} (λ v. v) (IsWithBody make framing) old new (Err e)
   body_cut None new e given = search rules
   body_cut (Some xs) new Memory given = search rules
@@ -136,68 +133,3 @@ request_whole old mid new head framing body r is one two =
     tells_ok (λ r. r) IsRequest old new r
     (then_next (λ h. h) IsCheckedHead (λ r. r) After old mid new (head, framing) (Ok r) one
     (body_made (request_of head) framing mid new body r is two))
-
-abbrev GivesFinal : Option (List ℕ) → Option (List ℕ) → Result ResponseHead MessageFault → Type 0
-GivesFinal = bytes.Gives {X = ResponseHead} (λ head. head) (IsFinalHead 16)
-
-module _ (method : List ℕ) where
-  abbrev TellsResponse : Option (List ℕ) → Option (List ℕ) → Result ResponseValue WireFault
-      → Type 0
-  TellsResponse = Gives {X = ResponseValue} (λ response. response) (IsResponse method)
-
-  abbrev Behind : ResponseHead → Framing → List ℕ → Reading ResponseValue → Type 0
-  Behind head framing = IsWithBody (response_of head framing) framing
-
-  abbrev IsFramed : ResponseHead → List ℕ → Reading Framing → Type 0
-  IsFramed head = By (checked (response_framing method head))
-
-  framed : (now : Option (List ℕ)) (head : ResponseHead) (framing : Framing)
-      → response_framing method head ≡ Ok framing
-      → bytes.Gives {X = Framing} (λ f. f) (IsFramed head) now now (Ok framing)
-  framed None head framing is = search rules
-  framed (Some xs) head framing is = rw is refl
-
-  not_framed : (now : Option (List ℕ)) (head : ResponseHead) (f : Fault)
-      → response_framing method head ≡ Err f
-      → bytes.Gives {X = Framing} (λ f. f) (IsFramed head) now now (Err (Bytes f))
-  not_framed None head f is = search rules
-  not_framed (Some xs) head f is = rw is refl
-
-  pub response_cut : (old mid : Option (List ℕ)) (e : MessageFault) (w : WireFault) → w ≡ of_read e
-      → GivesFinal old mid (Err e) → TellsResponse old mid (Err w)
-  response_cut old mid e w is given =
-      tells_err (λ r. r) (IsResponse method) old mid e w is
-      (then_fault (λ h. h) (IsFinalHead 16) (λ r. r) (IsResponseRest method) old mid e given)
-
-  pub response_refused : (old mid : Option (List ℕ)) (head : ResponseHead) (f : Fault)
-      (w : WireFault) → w ≡ of_bytes f → GivesFinal old mid (Ok head)
-      → response_framing method head ≡ Err f → TellsResponse old mid (Err w)
-  response_refused old mid head f w is one two =
-      tells_err (λ r. r) (IsResponse method) old mid (Bytes f) w is
-      (then_next (λ h. h) (IsFinalHead 16) (λ r. r) (IsResponseRest method) old mid mid head
-      (Err (Bytes f)) one
-      (then_fault (λ f. f) (IsFramed head) (λ r. r) (Behind head) mid mid (Bytes f)
-      (not_framed mid head f two)))
-
-  pub response_body_cut : (old mid new : Option (List ℕ)) (head : ResponseHead)
-      (framing : Framing) (e : MessageFault) (w : WireFault) → w ≡ of_read e
-      → GivesFinal old mid (Ok head) → response_framing method head ≡ Ok framing
-      → GivesBody framing mid new (Err e) → TellsResponse old new (Err w)
-  response_body_cut old mid new head framing e w is one two three =
-      tells_err (λ r. r) (IsResponse method) old new e w is
-      (then_next (λ h. h) (IsFinalHead 16) (λ r. r) (IsResponseRest method) old mid new head
-      (Err e) one
-      (then_next (λ f. f) (IsFramed head) (λ r. r) (Behind head) mid mid new framing (Err e)
-      (framed mid head framing two) (body_cut (response_of head framing) framing mid new e three)))
-
-  pub response_whole : (old mid new : Option (List ℕ)) (head : ResponseHead) (framing : Framing)
-      (body : Option (List ℕ)) (r : ResponseValue) → r ≡ response_of head framing body
-      → GivesFinal old mid (Ok head) → response_framing method head ≡ Ok framing
-      → GivesBody framing mid new (Ok body) → TellsResponse old new (Ok r)
-  response_whole old mid new head framing body r is one two three =
-      tells_ok (λ r. r) (IsResponse method) old new r
-      (then_next (λ h. h) (IsFinalHead 16) (λ r. r) (IsResponseRest method) old mid new head
-      (Ok r) one
-      (then_next (λ f. f) (IsFramed head) (λ r. r) (Behind head) mid mid new framing (Ok r)
-      (framed mid head framing two)
-      (body_made (response_of head framing) framing mid new body r is three)))

@@ -5,7 +5,7 @@ use Rattle.std.specs.List.{list_all, slice_get, flat_map}
 use Rattle.std.proofs.lemmas.List.{nil_from_length}
 use Rattle.std.proofs.lemmas.List.Sums.{length-filter}
 use Rattle.message_parts.specs.Header.{Header}
-use Rattle.message_fields.specs.Lengths.{digits_first, digits_length, is_digits}
+use Rattle.message_fields.specs.Lengths.{digits_first, digits_length, is_digits, most_body}
 use Rattle.message_fields.specs.Lines.{count_named, is_chunked_alone, is_named}
 use Rattle.message_fields.specs.Parts.{parts, parts_named}
 use Rattle.message_fields.specs.Target.{is_target}
@@ -37,7 +37,7 @@ not_true_false is = search rules
 none_counted : (n : ℕ) → nat_lt 0 n ≡ false → n ≡ 0
 none_counted n is = omega (arith, ltb-false 0 n is)
 
-module _ (lines : List Header) where
+module _ (most : ℕ) (lines : List Header) where
   abbrev OneText : Type 0
   OneText = (one : List ℕ)
       × (list_all (bytes_eq one) (parts_named (codes "content-length") lines) ≡ true)
@@ -51,13 +51,15 @@ module _ (lines : List Header) where
 
   of_test : (first : List ℕ) (t u : Bool) (framing : Framing)
       → list_all (bytes_eq first) (parts_named (codes "content-length") lines) ≡ u
-      → sized_by (digits_length (if t && u then Some first else None)) ≡ Ok framing → OneText
+      → sized_by (digits_length most (if t && u then Some first else None)) ≡ Ok framing
+      → OneText
   of_test first true true framing all is = (first, all)
   of_test first true false framing all is = absurd (no_value fault.Malformed framing is)
   of_test first false u framing all is = absurd (no_value fault.Malformed framing is)
 
   of_first : (first : Option (List ℕ)) (framing : Framing)
-      → sized_by (digits_length (digits_first (parts_named (codes "content-length") lines) first))
+      → sized_by
+      (digits_length most (digits_first (parts_named (codes "content-length") lines) first))
       ≡ Ok framing → OneText
   of_first None framing is = absurd (no_value fault.Malformed framing is)
   of_first (Some first) framing is =
@@ -77,7 +79,7 @@ module _ (lines : List Header) where
         → nat_lt 0 (count_named (codes "content-length") lines) ≡ lengths
         → ◌≡◌ {A = Result Framing Fault} (if codings && lengths then Err fault.BothLengths
         else (if codings then coded minor lines
-        else (if lengths then sized lines else Ok without))) (Ok framing)
+        else (if lengths then sized most lines else Ok without))) (Ok framing)
         → IsUnambiguous lines
     by_lines true true codings lengths is = absurd (no_value fault.BothLengths framing is)
     by_lines true false codings lengths is =
@@ -100,7 +102,7 @@ module _ (lines : List Header) where
           lengths = no_parts (none_counted _ lengths);
         }
 
-    lengths_are_one : lengths_of minor lines without ≡ Ok framing → IsUnambiguous lines
+    lengths_are_one : lengths_of most minor lines without ≡ Ok framing → IsUnambiguous lines
     lengths_are_one is = by_lines _ _ refl refl is
 
 -- the checks of a head that passed
@@ -124,11 +126,11 @@ one_host minor n is = one_by_tests n (n == 1) (n == 0) (minor == 0) refl refl is
 
 head_passed : (head : RequestHead) (framing : Framing) → request_framing head ≡ Ok framing
     → (hosts_fit head.minor (count_named (codes "host") head.lines) ≡ true)
-    × (lengths_of head.minor head.lines Bodiless ≡ Ok framing)
+    × (lengths_of most_body head.minor head.lines Bodiless ≡ Ok framing)
 head_passed head framing is =
     passed (is_refused head.method) (is_target head.method head.target)
     (hosts_fit head.minor (count_named (codes "host") head.lines))
-    (lengths_of head.minor head.lines Bodiless) framing is
+    (lengths_of most_body head.minor head.lines Bodiless) framing is
 
 -- what is made of a head and a body
 module _ {V : Type 0} (make : Option (List ℕ) → V) (framing : Framing) (v : V) (rest : List ℕ) where
@@ -178,7 +180,7 @@ requests_unambiguous bytes rest request is =
     let of = request_checked request rest bytes (Ok (request, rest)) is refl in
     let lengths = (head_passed of.0 of.1 of.3).1 in
     subst IsUnambiguous (sym of.2)
-    (lengths_are_one of.0.lines of.0.minor Bodiless of.1 lengths)
+    (lengths_are_one most_body of.0.lines of.0.minor Bodiless of.1 lengths)
 
 pub requests_have_one_host : (bytes rest : List ℕ) (request : Request)
     → IsRequest bytes (Ok (request, rest)) → count_named (codes "host") request.headers ≤ 1
@@ -217,8 +219,9 @@ module _ (method : List ℕ) (response : ResponseValue) (rest : List ℕ) where
       ap (is_bodiless method) status ∙ tells in
       let framed = framed_is (response_framing method head) framing bytes mid x in
       let lengths = sym (with_lengths (bytes_eq method (codes "HEAD")) (head.status == 204)
-      (head.status == 304) (lengths_of head.minor head.lines ToEnd) told) ∙ framed in
-      subst IsUnambiguous lines (lengths_are_one head.lines head.minor ToEnd framing lengths)
+      (head.status == 304) (lengths_of most_body head.minor head.lines ToEnd) told) ∙ framed in
+      subst IsUnambiguous lines
+      (lengths_are_one most_body head.lines head.minor ToEnd framing lengths)
 
   response_unambiguous : (bytes : List ℕ) (r : Reading ResponseValue)
       → is_bodiless method response.status ≡ false → IsResponse method bytes r

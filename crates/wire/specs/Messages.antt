@@ -4,10 +4,11 @@ use Rattle.std.specs.Prelude.{take}
 use Rattle.std.specs.Io.KnownBytes.{Appends}
 use Rattle.message_fields.specs.Target.{path_of}
 use Rattle.message_reading.specs.Reading.{By, Reading, Then, checked}
+use Rattle.message_reading.specs.declared.fault.Fault.{Fault}
 use Rattle.message_reading.specs.declared.request_head.RequestHead.{RequestHead}
 use Rattle.message_reading.specs.declared.response_head.ResponseHead.{ResponseHead}
 use Rattle.message_reading.specs.declared.framing.Framing.{Framing}
-use Rattle.message_reading.specs.Framing.{response_framing}
+use Rattle.message_reading.specs.Framing.{response_framing, response_framing_within}
 use Rattle.message_reading.specs.Heads.{IsCheckedHead, IsFinalHead}
 use Rattle.message_reading.specs.Body.{IsWithBody}
 use Rattle.message_reading.specs.Continue.{Says}
@@ -16,7 +17,7 @@ use Rattle.message_parts.specs.declared.request.Request.{Request}
 use Rattle.message_parts.specs.declared.request.Version.{Version}
 use Rattle.message_parts.specs.declared.request.Version.TheVariants.{Http10, Http11}
 use Rattle.wire.specs.Fault.{bytes_fault}
-use Rattle.wire.specs.Response.{ResponseValue}
+use Rattle.wire.specs.Response.{BegunValue, ResponseValue, finished}
 use Rattle.wire.specs.Reuse.{reuse_of}
 
 -- HTTP/1.0 or HTTP/1.1
@@ -37,6 +38,31 @@ request_of head body = record {
 -- a request: its head, the checks of it, and its body
 abbrev pub IsRequest : List ℕ → Reading Request → Type 0
 IsRequest = Then IsCheckedHead (λ checked. IsWithBody (request_of checked.0) checked.1)
+
+-- the beginning of the response with this head, whose body is delimited so
+abbrev pub begun_of : ResponseHead → Framing → BegunValue
+begun_of head framing = record {
+  status = head.status;
+  headers = head.lines;
+  framing = framing;
+  reuse = reuse_of head framing;
+}
+
+-- the same, or the fault of its lengths
+abbrev pub begun_by : ResponseHead → Result Framing Fault → Result BegunValue Fault
+begun_by head (Ok framing) = Ok (begun_of head framing)
+begun_by head (Err f) = Err f
+
+-- the beginning of a response to a request of this method, whose body has at most so many bytes: at
+-- most 16 interim heads, its head and its lengths
+abbrev pub IsBegun : ℕ → List ℕ → List ℕ → Reading BegunValue → Type 0
+IsBegun most method =
+    Then (IsFinalHead 16)
+    (λ head. By (checked (begun_by head (response_framing_within most method head))))
+
+-- what follows the beginning of a response: its body
+abbrev pub IsFinish : BegunValue → List ℕ → Reading ResponseValue → Type 0
+IsFinish begun = IsWithBody (finished begun) begun.framing
 
 -- the response with this head and body, where the body is delimited so
 abbrev pub response_of : ResponseHead → Framing → Option (List ℕ) → ResponseValue

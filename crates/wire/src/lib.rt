@@ -4,6 +4,8 @@
 //! each text and each body as its list of bytes, and the header lines as a list in their order.
 //! [`read_request`] and [`read_response`] give the value that `specs/Messages.antt` has for the
 //! bytes of a reader, or the fault that comes first, and leave what follows the message unread.
+//! [`begin_response`] and [`finish_response`] are the two parts of [`read_response`]: the head, and
+//! the body.
 //! [`write_request`] and [`write_response`] write the texts of `specs/Written.antt`.
 //!
 //! A [`Backend`] is a server that answers one request at a time. It counts what it was given, and
@@ -14,6 +16,7 @@
 mod answer;
 mod answering;
 mod backend;
+mod begun;
 mod fault;
 mod forwarding;
 mod laws;
@@ -26,6 +29,7 @@ mod reuse;
 pub use answer::BackendAnswer;
 pub use answering::write_response;
 pub use backend::Backend;
+pub use begun::BegunResponse;
 pub use fault::WireFault;
 pub use forwarding::write_request;
 pub use laws::{messages_are_unambiguous, messages_have_one_reading};
@@ -33,5 +37,5 @@ pub use message_parts::{Request, Version};
 pub use message_text::Persistence;
 pub use request_reading::read_request;
 pub use response::Response;
-pub use response_reading::read_response;
+pub use response_reading::{begin_response, finish_response, read_response};
 pub use reuse::Reuse;

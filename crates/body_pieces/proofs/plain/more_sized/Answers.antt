@@ -12,5 +12,5 @@ returns-clause-more g c =
     let gave = c.in_ok-count.ensures.gave in
     let few : count ≤ left = search rules in
     let fits : length gave.0 ≤ left = omega (arith, few, gave.1) in
-    sized_more left (left - count) old new c.args.bytes.items gave.0 c.read_some.new.into.items gave.3
-    fits gave.2 (ap (λ k. left - k) (sym gave.1))
+    sized_more left (left - count) old new c.args.bytes.items gave.0 c.read_some.new.into.items
+    gave.3 fits gave.2 (ap (λ k. left - k) (sym gave.1))

@@ -5,5 +5,5 @@ use Rattle.message_fields.proofs.length.value_of.Given as goal
 abbrev pub invariant-loop-digit : goal.invariant-loop-digit
 invariant-loop-digit l = record {
   value : l.size ≡ digits_value 10 (take l.digit-index l.digits);
-  within : l.size ≤ 8388608;
+  within : l.size ≤ l.most;
 }

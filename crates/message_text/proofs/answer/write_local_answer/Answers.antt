@@ -1,5 +1,5 @@
 use Rattle.message_text.proofs.Texts.{wrote_then, local_whole}
-use Rattle.message_text.proofs.Fronts.{front_err, front_first, front_last, front_second}
+use Rattle.message_text.proofs.Fronts.{front_err, front_first, front_last}
 use Rattle.message_text.proofs.answer.write_local_answer.Goals as goal
 
 pub returns-clause-all : goal.returns-clause-all

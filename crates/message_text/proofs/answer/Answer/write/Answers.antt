@@ -12,19 +12,19 @@ returns-clause-all g c =
     c.bytes_of.ensures
     ∙ ap (λ (o : Option (List ℕ)). unwrap_or o []) c.written_body.ensures in
     wrote_then c.write_and_flush.result _ _ _ _ _ _ (answer_whole (seen c.args.self.now))
-    (Appends-trans _ _ _ _ _ c.in_ok-write_status.ensures.all c.in_ok-write_lines.ensures.all)
+    (Appends-trans _ _ _ _ _ c.in_ok-write_front.ensures.all c.in_ok-write_last.ensures.all)
     (rw body at c.write_and_flush.ensures.all)
 
-pub returns-in_err-write_status-clause-front : goal.returns-in_err-write_status-clause-front
-returns-in_err-write_status-clause-front g c =
+pub returns-in_err-write_front-clause-front : goal.returns-in_err-write_front-clause-front
+returns-in_err-write_front-clause-front g c =
     front_err _ _ _ _ _ (answer_whole (seen c.args.self.now))
-    (front_first _ _ _ _ (front_first _ _ _ _ c.in_err-write_status.ensures.front))
+    (front_first _ _ _ _ (front_first _ _ _ _ c.in_err-write_front.ensures.front))
 
-pub returns-in_err-write_lines-clause-front : goal.returns-in_err-write_lines-clause-front
-returns-in_err-write_lines-clause-front g c =
+pub returns-in_err-write_last-clause-front : goal.returns-in_err-write_last-clause-front
+returns-in_err-write_last-clause-front g c =
     front_err _ _ _ _ _ (answer_whole (seen c.args.self.now))
     (front_first _ _ _ _
-    (front_second _ _ _ _ _ c.in_ok-write_status.ensures.all c.in_err-write_lines.ensures.front))
+    (front_second _ _ _ _ _ c.in_ok-write_front.ensures.all c.in_err-write_last.ensures.front))
 
 pub returns-clause-front : goal.returns-clause-front
 returns-clause-front g c =
@@ -32,5 +32,5 @@ returns-clause-front g c =
     c.bytes_of.ensures
     ∙ ap (λ (o : Option (List ℕ)). unwrap_or o []) c.written_body.ensures in
     front_last c.write_and_flush.result _ _ _ _ _ _ (answer_whole (seen c.args.self.now))
-    (Appends-trans _ _ _ _ _ c.in_ok-write_status.ensures.all c.in_ok-write_lines.ensures.all)
+    (Appends-trans _ _ _ _ _ c.in_ok-write_front.ensures.all c.in_ok-write_last.ensures.all)
     (rw body at c.write_and_flush.ensures.front)

@@ -1,4 +1,4 @@
-use Rattle.std.proofs.Common.{rules, ◌≡◌, ◌++◌, ◌∷◌, [], Some, ap, sym, ◌∙◌}
+use Rattle.std.proofs.Common.{◌≡◌, ◌++◌, Some, ap, sym, ◌∙◌}
 use Rattle.std.specs.Prelude.{codes}
 use Rattle.message_fields.specs.Lengths.{length_digits}
 use Rattle.message_text.specs.Answer.{received_lines}
