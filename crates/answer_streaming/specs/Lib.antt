@@ -1,4 +1,6 @@
 pub mod Passed
 pub mod Permits
+pub mod Progress
 pub mod Taken
 pub mod Texts
+pub mod Waits

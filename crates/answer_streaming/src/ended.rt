@@ -1,5 +1,4 @@
-// How a body that is passed on ends, and how its permit ends.
-use limiter_core::Outcome;
+// How a body that is passed on ends.
 use message_reading::MessageFault;
 
 /// How a body that was passed on ended.
@@ -24,11 +23,4 @@ pub enum Passed {
     Unread(MessageFault),
     /// It was streamed.
     Streamed(End),
-}
-
-/// What is known as a permit is ended: its outcome, and how many reads were made of the backend.
-#[derive(Clone, Copy)]
-pub struct Ending {
-    pub outcome: Outcome,
-    pub reads: u64,
 }

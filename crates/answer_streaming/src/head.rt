@@ -4,53 +4,66 @@ ghost use Rattle.arrayvec.specs.ArrayVec.{array_vec_len};
 ghost use Rattle.counted_io.specs.Causes.{IsWriteCause};
 ghost use Rattle.counted_io.specs.Counted.{failures_of};
 ghost use Rattle.counted_io.specs.Effects.{Wrote};
+ghost use Rattle.message_text.specs.Answer.{front_text};
 ghost use Rattle.answer_streaming.specs.Texts.{Takes, behind, head_text, last_lines, length_text, opening_text, told_text};
 
 use crate::delimiting::{Delimiting, write_piece};
 use arrayvec::ArrayVec;
 use counted_io::{Counted, WriteFault, write_all};
 use itoa::Buffer;
-use message_text::Persistence;
+use message_parts::Header;
+use message_text::{Persistence, write_front};
 use std::io::Write;
 
-/// Writes a head that begins with `front`.
-fn write_head<W: Write>(
-    writer: &mut Counted<W>,
-    front: &[u8],
-    delimiting: Delimiting,
-    persistence: Persistence,
-) -> Result<(), WriteFault>
-    ensures all { OnOk result (Wrote W.contents writer.old writer.new
-        (head_text delimiting persistence front.now)) }
-    ensures unfailing { OnOk result (failures_of writer.new ≡ failures_of writer.old) }
-    ensures front { OnErr result ((count : ℕ) × Wrote W.contents writer.old writer.new
-        (take count (head_text delimiting persistence front.now))) }
-    ensures failed { OnErr result (IsWriteCause writer.old writer.new) }
-{
-    write_all(writer, front)?;
-    write_all(writer, told(delimiting, persistence).as_slice())
+/// What the head of a streamed answer is written from.
+#[derive(Clone, Copy, Drop)]
+pub(crate) struct Head<'a> {
+    /// The status, from 100 to 999.
+    pub(crate) status: u16,
+    /// The header lines of the response as they came.
+    pub(crate) headers: &'a [Header],
+    pub(crate) delimiting: Delimiting,
+    pub(crate) persistence: Persistence,
 }
 
-/// Writes a head that begins with `front`, and the first piece of the payload, flushes them, and
-/// returns what is to be written behind them.
-pub(crate) fn write_opening<W: Write>(
-    writer: &mut Counted<W>,
-    front: &[u8],
-    delimiting: Delimiting,
-    persistence: Persistence,
-    first: &[u8],
-) -> Result<Delimiting, WriteFault>
-    requires room { Takes delimiting (length first.now) }
+/// Writes a head.
+fn write_head<W: Write>(writer: &mut Counted<W>, head: Head<'_>) -> Result<(), WriteFault>
+    requires three_digits { (100 ≤ head.status) × (head.status ≤ 999) }
     ensures all { OnOk result (Wrote W.contents writer.old writer.new
-        (opening_text delimiting persistence front.now first.now)) }
-    ensures after { IfOk result (λ after. after ≡ behind delimiting (length first.now)) }
+        (head_text head.entry.delimiting head.entry.persistence
+        (front_text head.entry.status head.entry.headers.now))) }
     ensures unfailing { OnOk result (failures_of writer.new ≡ failures_of writer.old) }
     ensures front { OnErr result ((count : ℕ) × Wrote W.contents writer.old writer.new
-        (take count (opening_text delimiting persistence front.now first.now))) }
+        (take count (head_text head.entry.delimiting head.entry.persistence
+        (front_text head.entry.status head.entry.headers.now)))) }
     ensures failed { OnErr result (IsWriteCause writer.old writer.new) }
 {
-    write_head(writer, front, delimiting, persistence)?;
-    write_piece(writer, delimiting, first)
+    write_front(writer, head.status, head.headers)?;
+    write_all(writer, told(head.delimiting, head.persistence).as_slice())
+}
+
+/// Writes a head and the first piece of the payload, flushes them, and returns what is to be
+/// written behind them.
+pub(crate) fn write_opening<W: Write>(
+    writer: &mut Counted<W>,
+    head: Head<'_>,
+    first: &[u8],
+) -> Result<Delimiting, WriteFault>
+    requires three_digits { (100 ≤ head.status) × (head.status ≤ 999) }
+    requires room { Takes head.delimiting (length first.now) }
+    ensures all { OnOk result (Wrote W.contents writer.old writer.new
+        (opening_text head.entry.delimiting head.entry.persistence
+        (front_text head.entry.status head.entry.headers.now) first.now)) }
+    ensures after { IfOk result (λ after.
+        after ≡ behind head.entry.delimiting (length first.now)) }
+    ensures unfailing { OnOk result (failures_of writer.new ≡ failures_of writer.old) }
+    ensures front { OnErr result ((count : ℕ) × Wrote W.contents writer.old writer.new
+        (take count (opening_text head.entry.delimiting head.entry.persistence
+        (front_text head.entry.status head.entry.headers.now) first.now))) }
+    ensures failed { OnErr result (IsWriteCause writer.old writer.new) }
+{
+    write_head(writer, head)?;
+    write_piece(writer, head.delimiting, first)
 }
 
 /// Returns the lines that say how a body ends and whether the connection ends, and the empty line.

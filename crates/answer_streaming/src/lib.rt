@@ -6,8 +6,15 @@
 //! is handed back instead, so that a small answer can be written as one that isn't streamed. A
 //! [`Delimiting`] says how the client finds the end of the body: by a length, by chunks, or by the
 //! end of the connection.
-//! `specs/Texts.antt` defines what is written, `specs/Passed.antt` what was read and written, and
-//! `specs/Permits.antt` how the permit is ended.
+//!
+//! A permit of a streamed answer stands for the client's time too. So the clock is looked at before
+//! and after each write, and a success isn't measured if the client was waited for longer than 100
+//! milliseconds in all. Each look knows a [`Progress`], which shows after how many reads and writes
+//! it came.
+//!
+//! `specs/Texts.antt` defines what is written, `specs/Passed.antt` what was read and written,
+//! `specs/Waits.antt` for how long the client was waited for, and `specs/Permits.antt` how the
+//! permit is ended.
 #![tactic(auto)]
 
 mod chunk;
@@ -15,11 +22,14 @@ mod delimiting;
 mod ended;
 mod head;
 mod passing;
+mod progress;
 mod source;
 mod streaming;
 mod taken;
+mod waiting;
 
 pub use delimiting::{Delimiting, delimiting_for, finish, write_piece};
-pub use ended::{End, Ending, Passed};
+pub use ended::{End, Passed};
 pub use passing::{StreamedAnswer, pass_on};
+pub use progress::Progress;
 pub use source::Source;

@@ -5,7 +5,7 @@ ghost use Rattle.limiter_core.specs.declared.event.Outcome.TheVariants.{Dropped}
 ghost use Rattle.answer_streaming.specs.Permits.{IsEnded, EndsBy};
 ghost use Rattle.answer_streaming.specs.Taken.{IsTaken, IsTakenWell};
 
-use crate::ended::Ending;
+use crate::progress::Progress;
 use crate::source::Source;
 use body_pieces::{Piece, next_piece};
 use clocks::{Clock, MonotonicClock};
@@ -29,57 +29,64 @@ pub(crate) enum Taken<M> {
     Broken(MessageFault),
 }
 
-/// Ends a permit after what was read so far.
-pub(crate) fn end_permit<P, C, T, R>(
+/// What is read next, and the outcome of the permit if that is the last piece.
+#[derive(Drop)]
+pub(crate) struct Due {
+    pub(crate) source: Source,
+    pub(crate) outcome: Outcome,
+}
+
+/// Ends a permit after what was read and written so far.
+pub(crate) fn end_permit<P, C, T, R, W>(
     port: &mut P,
     permit: P::Permit,
     looks: &mut MonotonicClock<'_, C, T>,
     outcome: Outcome,
     reader: &Counted<R>,
+    writer: &Counted<W>,
 )
 where
     P: GatePort,
     C: Clock,
-    T: From<Ending> + Drop,
-    ensures { IsEnded T.from_gives (P.facts permit)
-        (record { outcome = outcome; reads = calls_of reader.now })
+    T: From<Progress> + Drop,
+    ensures { IsEnded T.from_gives (P.facts permit) outcome
+        (calls_of reader.now) (calls_of writer.now)
         (record { shown = P.shown port.old; known = P.known port.old; looks = looks.old })
         (record { shown = P.shown port.new; known = P.known port.new; looks = looks.new }) }
 {
-    let known = T::from(Ending {
-        outcome,
-        reads: reader.calls(),
-    });
+    let known = T::from(Progress::now(reader, writer, Some(outcome)));
     let now = looks.look_knowing(&known);
     let _receipt = port.end(permit, outcome, now);
 }
 
 /// Reads a piece, and ends the permit if it is the last one, with this outcome, or if there is
-/// none. It is lent no writer, so nothing is written between the last read and the end of the
-/// permit.
-pub(crate) fn take_piece<P, C, T, R>(
+/// none. It can't write to the client, so nothing is written between the last read and the end of
+/// the permit.
+pub(crate) fn take_piece<P, C, T, R, W>(
     port: &mut P,
     permit: P::Permit,
     looks: &mut MonotonicClock<'_, C, T>,
-    outcome: Outcome,
     reader: &mut Counted<R>,
-    source: Source,
+    writer: &Counted<W>,
+    due: Due,
 ) -> Taken<P::Permit>
 where
     P: GatePort,
     C: Clock,
-    T: From<Ending> + Drop,
+    T: From<Progress> + Drop,
     R: BufRead + ReadAhead,
-    requires some_room { 0 < source.room }
-    ensures taken { IsTaken source.rest (R.remaining (inner_of reader.old))
+    requires some_room { 0 < due.source.room }
+    ensures taken { IsTaken due.source.rest (R.remaining (inner_of reader.old))
         (R.remaining (inner_of reader.new)) result }
     ensures well { IsTakenWell result reader.old reader.new }
-    ensures ended { EndsBy T.from_gives P.facts permit outcome (calls_of reader.new)
+    ensures ended { EndsBy T.from_gives P.facts permit due.outcome
+        (calls_of reader.new) (calls_of writer.now)
         (record { shown = P.shown port.old; known = P.known port.old; looks = looks.old })
         (record { shown = P.shown port.new; known = P.known port.new; looks = looks.new })
         result }
 {
     let limit = reader.calls().saturating_add(MOST_READS);
+    let Due { source, outcome } = due;
     let Source {
         alloc,
         rest,
@@ -91,11 +98,11 @@ where
             if !piece.is_last {
                 return Taken::More(permit, piece);
             }
-            end_permit(port, permit, looks, outcome, reader);
+            end_permit(port, permit, looks, outcome, reader, writer);
             Taken::Last(piece)
         }
         Err(fault) => {
-            end_permit(port, permit, looks, Outcome::Dropped, reader);
+            end_permit(port, permit, looks, Outcome::Dropped, reader, writer);
             Taken::Broken(fault)
         }
     }

@@ -33,8 +33,8 @@ returns-in_err-write_all-2-clause-front g c =
     ≡ chunk_text c.args.piece.now =
     ap (λ (l : List ℕ). (l ++ c.args.piece.now) ++ codes "\r\n") line in
     let m = held (inner_of c.write_all-2.new.writer) in
-    three_second c.from_residual-in_err-write_all-2.result a b m m c.prefix.result.now c.args.piece.now (codes "\r\n")
-    (chunk_text c.args.piece.now) is
+    three_second c.from_residual-in_err-write_all-2.result a b m m c.prefix.result.now
+    c.args.piece.now (codes "\r\n") (chunk_text c.args.piece.now) is
     c.in_ok-write_all.ensures.all c.in_err-write_all-2.ensures.front
 
 pub returns-clause-all : goal.returns-clause-all
