@@ -14,7 +14,7 @@ pub trait Handler<X> {
     /// What a request came to.
     type Told;
 
-    /// Decides by that what becomes of its client.
+    /// Decides, by what a request came to, whether its client is kept.
     type Protocol: Protocol<Self::Told>;
 
     ghost use Rattle.handling.specs.Handled.{Ends};

@@ -56,8 +56,8 @@ impl<'a, L: Listener> CountedListener<'a, L, L::Token> {
         }
     }
 
-    /// Waits for the next client: a new one, to whom nothing was written yet, or, where it may be
-    /// one who was kept, whoever comes first of both.
+    /// Waits for the next client: a new one, to whom nothing was written yet, or, if it may be one
+    /// who was kept, either of them, whichever comes first.
     pub fn next(&mut self, may_be_kept: bool) -> Result<AcceptedClient<L::Stream, L::From, L::To>>
         ensures listener { listener_of self.new ≡ listener_of self.old }
         ensures accepted { accepted_of self.new

@@ -98,7 +98,7 @@ where
 /// is free. Of a client that was kept the request is a later one of its connection.
 pub(crate) fn serve_by_exchange<T, I, O, P, B, C, L, W, D, A>(
     common: &WorkerSettings<'_, L, C, W>,
-    door: &D,
+    keeper: &DoorKeeper<'_, D>,
     patience: &A,
     client: AcceptedClient<T, I, O>,
     exchanger: &mut Exchanger<P, B>,
@@ -117,7 +117,7 @@ where
         (record {
           settings = common.now.settings.now;
           marks = common.now.marks;
-          keeps = told_by_places common.now.settings.now.clients;
+          keeps = told_by_places keeper.now.places;
           later = client.is_kept;
         })
         (I.remaining (from_of client.ends)) (O.contents (to_of client.ends))
@@ -126,17 +126,13 @@ where
         (back_of P.shown P.known B.forwarded B.shown exchanger.new.port exchanger.new.backend)
         result.1 }
 {
-    let keeper = DoorKeeper {
-        door,
-        places: common.settings.clients,
-    };
     let terms = ExchangeTerms {
         settings: common.settings,
         clock: common.clock,
         alloc: common.alloc,
         bodies: common.bodies,
         marks: common.marks,
-        keeper: &keeper,
+        keeper,
         is_later: client.is_kept,
     };
     let time = ClientTime {
@@ -146,12 +142,15 @@ where
     serve_client(exchanger, &terms, client, patience, &time, buffers)
 }
 
-/// Who tells whether a client that is answered may be kept: the door that it came by, where there
-/// are places for it.
+/// Who tells whether a client that is answered may be kept: the door that it came by, if there are
+/// places for it. The last answer of a worker says that the connection ends.
 #[derive(Drop)]
-struct DoorKeeper<'d, A> {
-    door: &'d A,
-    places: u32,
+pub(crate) struct DoorKeeper<'d, A> {
+    pub(crate) door: &'d A,
+    /// How many clients may be kept.
+    pub(crate) places: u32,
+    /// Whether this is the last turn of a worker.
+    pub(crate) is_last: bool,
 }
 
 impl<A: Accepts> Keeper for DoorKeeper<'_, A> {
@@ -163,6 +162,6 @@ impl<A: Accepts> Keeper for DoorKeeper<'_, A> {
         if self.places == 0 {
             return false;
         }
-        self.door.keeps()
+        !self.is_last && self.door.keeps()
     }
 }

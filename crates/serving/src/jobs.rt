@@ -1,9 +1,4 @@
 // Who has a thread, and what each leaves.
-ghost use Rattle.std.specs.Prelude.{◌≡◌, ◌≤◌, ◌+◌, false};
-ghost use Rattle.serving.specs.Served.{back_of};
-ghost use Rattle.serving.specs.Turns.{place_of};
-ghost use Rattle.serving.specs.Workers.{WorksIn};
-
 use crate::exchanging::Exchanger;
 use crate::reporting::ActiveWorkers;
 use crate::watching::Exchanges;
@@ -92,9 +87,23 @@ where
         match self {
             Job::SideTask(task) => JobResult::SideTask(task.run()),
             Job::Worker(context, worker) => {
-                let left = run_one(context, worker);
+                let Worker {
+                    mut door,
+                    port,
+                    backend,
+                    buffers,
+                } = worker;
+                let mut exchanger = Exchanger { port, backend };
+                let common = context.common;
+                let tally = work(context.rt, common, &mut door, &mut exchanger, buffers);
                 leave(context);
-                JobResult::Worked(left)
+                let Exchanger { port, backend } = exchanger;
+                JobResult::Worked(WorkerExit {
+                    door,
+                    port,
+                    backend,
+                    tally,
+                })
             }
         }
     }
@@ -110,39 +119,5 @@ where
         if let Some(listener) = context.side_listener {
             listener.close(context.rt, Duration::from_millis(0));
         }
-    }
-}
-
-/// One worker's whole run.
-fn run_one<R, A, P, B, L, E, C, W>(
-    context: &Context<'_, R, L, E, C, W>,
-    worker: Worker<A, P, B>,
-) -> WorkerExit<A, P, B>
-where
-    R: SystemClock,
-    A: Accepts<Told = Exchange, Protocol = Exchanges> + Drop,
-    P: GatePort + Drop,
-    B: Backend + Drop,
-    C: Clock,
-    W: Watch,
-    ensures { WorksIn (place_of A.given A.failed A.closed A.visits A.roll
-        (back_of P.shown P.known B.forwarded B.shown)) A.came A.shut A.source
-        context.now worker result }
-{
-    let common = context.common;
-    let Worker {
-        mut door,
-        port,
-        backend,
-        buffers,
-    } = worker;
-    let mut exchanger = Exchanger { port, backend };
-    let tally = work(context.rt, common, &mut door, &mut exchanger, buffers);
-    let Exchanger { port, backend } = exchanger;
-    WorkerExit {
-        door,
-        port,
-        backend,
-        tally,
     }
 }

@@ -11,8 +11,8 @@
 //! Of a socket nothing tells what came and went; a door in memory may show its visits, and then
 //! each client's bytes are those of its exchanges. What a kept client has yet to send is just what
 //! its exchange left unread, so the bytes of a connection are cut into requests in one way:
-//! [`a_visit_reads_each_byte_once`]. Nothing is promised of how long a call takes, nor that a
-//! client comes at all.
+//! [`a_visit_reads_each_byte_once`]. No contract says how long a call takes, or that a client
+//! comes at all.
 #![tactic(auto)]
 
 mod exchanging;

@@ -4,7 +4,7 @@ ghost use Rattle.counted_io.specs.Count.{count_end};
 ghost use Rattle.serving.specs.Served.{back_of, policy_of};
 ghost use Rattle.serving.specs.Turns.{IsRun, place_of};
 
-use crate::exchanging::{Exchanger, serve_by_exchange};
+use crate::exchanging::{DoorKeeper, Exchanger, serve_by_exchange};
 use crate::watching::Exchanges;
 use body_memory::SharedBodies;
 use clocks::Clock;
@@ -70,7 +70,8 @@ pub struct TurnCounts {
 /// one or one who was kept, is served by one exchange, and is let go, or waits for its next request
 /// where it was told so; or none was to be had, and then nothing is forwarded, and the next turn
 /// comes a while later: what was missing, such as a free descriptor, isn't there at once. What the
-/// backend's answer left is waited for once the client was left.
+/// backend's answer left is waited for once the client was left. The client of the last turn isn't
+/// kept, and its answer says so.
 pub fn work<R, A, P, B, C, L, W>(
     rt: &R,
     common: &WorkerSettings<'_, L, C, W>,
@@ -117,11 +118,16 @@ where
         accepted: 0,
         unaccepted: 0,
     };
-    for _ in 0..common.per_worker {
+    for turn in 0..common.per_worker {
         match door.accept() {
             Ok(client) => {
+                let keeper = DoorKeeper {
+                    door: &*door,
+                    places: common.settings.clients,
+                    is_last: turn == common.per_worker - 1,
+                };
                 let (client, served, used) = serve_by_exchange(
-                    common, &*door, &patience, client, exchanger, buffers,
+                    common, &keeper, &patience, client, exchanger, buffers,
                 );
                 buffers = used;
                 door.leave(client, served);

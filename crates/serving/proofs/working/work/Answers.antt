@@ -10,8 +10,8 @@ use Rattle.serving.proofs.TakenTurns.{same_back}
 use Rattle.serving.proofs.working.work.Goals.{in-Ok, in-Err+else-is_closed}
 use Rattle.serving.proofs.working.work.Goals as goal
 
-pub loop-init : goal.loop-init
-loop-init g c = record {
+pub loop-turn-init : goal.loop-turn-init
+loop-turn-init g c = record {
   took = begins _ _ _;
   turns = refl;
   same = λ sent came. came;
@@ -20,15 +20,15 @@ loop-init g c = record {
   source = refl;
 }
 
-pub loop-preserved : goal.loop-preserved
-loop-preserved g c = elim c.match-accept.branch [
+pub loop-turn-preserved : goal.loop-turn-preserved
+loop-turn-preserved g c = elim c.match-accept.branch [
   | in-Ok w ↦ record {
     took = goes_on_visited _ _ _ _ _ _ _ _
         (client_of g.A.From.Inlet.remaining g.A.To.Outlet.contents w.in-Ok.client.ends
         w.in-Ok.client.is_kept)
         (client_of g.A.From.Inlet.remaining g.A.To.Outlet.contents
         w.serve_by_exchange-client.result.0.ends (is_kept w.serve_by_exchange-client.result.1))
-        w.serve_by_exchange-client.result.1 c.loop.invariant.took (search rules) (search rules)
+        w.serve_by_exchange-client.result.1 c.loop-turn.invariant.took (search rules) (search rules)
         (record {
           visits = g.A.Accepts.visits c.accept.new.self;
           back = back_of g.P.GatePort.shown g.P.GatePort.known g.B.Backend.forwarded
@@ -40,7 +40,7 @@ loop-preserved g c = elim c.match-accept.branch [
           turn = record {
             unwritten = w.in-Ok.ensures.unwritten;
             served = w.serve_by_exchange-client.ensures;
-            comes = c.loop.invariant.same _ w.in-Ok.ensures.came;
+            comes = c.loop-turn.invariant.same _ w.in-Ok.ensures.came;
           };
           same = same_back g.P.GatePort.shown g.P.GatePort.known g.B.Backend.forwarded
               g.B.Backend.shown _ _ _ _ w.leave-in-Ok.new.self (search rules) (search rules)
@@ -52,70 +52,72 @@ loop-preserved g c = elim c.match-accept.branch [
           goes = search rules;
         });
     turns = search rules;
-    same = λ sent came. c.loop.invariant.same sent
+    same = λ sent came. c.loop-turn.invariant.same sent
         (c.accept.ensures.place sent (w.leave.ensures.place sent
         (subst (λ door. g.A.Accepts.came door sent) w.door-is came)));
-    shut = λ is begun. c.loop.invariant.shut (sym w.in-Ok.ensures.open
+    shut = λ is begun. c.loop-turn.invariant.shut (sym w.in-Ok.ensures.open
         ∙ sym w.leave.ensures.same_closed ∙ sym (ap g.A.Accepts.closed w.door-is) ∙ is) begun;
-    same_shut = λ shut. c.loop.invariant.same_shut (c.accept.ensures.same_shut
+    same_shut = λ shut. c.loop-turn.invariant.same_shut (c.accept.ensures.same_shut
         (w.leave.ensures.same_shut (subst g.A.Accepts.shut w.door-is shut)));
     source = ap g.A.Accepts.source w.door-is ∙ w.leave.ensures.source ∙ c.accept.ensures.source
-        ∙ c.loop.invariant.source;
+        ∙ c.loop-turn.invariant.source;
   }
   | in-Err+else-is_closed w ↦ record {
-    took = goes_on _ _ _ _ _ _ _ _ Missing c.loop.invariant.took
+    took = goes_on _ _ _ _ _ _ _ _ Missing c.loop-turn.invariant.took
         (search rules) (search rules) (search rules) (search rules) (search rules)
         (missing_shown _ _ (search rules)) (missing_rolled _ _ (search rules));
     turns = search rules;
-    same = λ sent came. c.loop.invariant.same sent (c.accept.ensures.place sent
+    same = λ sent came. c.loop-turn.invariant.same sent (c.accept.ensures.place sent
         (subst (λ door. g.A.Accepts.came door sent) w.door-is came));
-    shut = λ is begun. c.loop.invariant.same_shut (w.in-Err.ensures.shut
+    shut = λ is begun. c.loop-turn.invariant.same_shut (w.in-Err.ensures.shut
         (sym (ap g.A.Accepts.closed w.door-is) ∙ is));
-    same_shut = λ shut. c.loop.invariant.same_shut (c.accept.ensures.same_shut
+    same_shut = λ shut. c.loop-turn.invariant.same_shut (c.accept.ensures.same_shut
         (subst g.A.Accepts.shut w.door-is shut));
     source = ap g.A.Accepts.source w.door-is ∙ c.accept.ensures.source
-        ∙ c.loop.invariant.source;
+        ∙ c.loop-turn.invariant.source;
   }
 ]
 
 pub returns-then-is_closed-clause-run : goal.returns-then-is_closed-clause-run
 returns-then-is_closed-clause-run g c =
-    run_of _ _ _ _ _ _ _ _ (goes_on _ _ _ _ _ _ _ _ Missing c.loop.invariant.took
+    run_of _ _ _ _ _ _ _ _ (goes_on _ _ _ _ _ _ _ _ Missing c.loop-turn.invariant.took
     (search rules) (search rules) (search rules) (search rules) (search rules)
     (missing_shown _ _ (search rules)) (missing_rolled _ _ (search rules))) (search rules)
     (λ open_yet. absurd (search rules))
-    (λ is begun. c.loop.invariant.same_shut (c.in-Err.ensures.shut is))
+    (λ is begun. c.loop-turn.invariant.same_shut (c.in-Err.ensures.shut is))
 
 pub returns-then-is_closed-clause-once : goal.returns-then-is_closed-clause-once
-returns-then-is_closed-clause-once g c = forwarded_at_most _ _ _ _ _ _ c.loop.invariant.took
+returns-then-is_closed-clause-once g c = forwarded_at_most _ _ _ _ _ _ c.loop-turn.invariant.took
 
 pub returns-then-is_closed-clause-given : goal.returns-then-is_closed-clause-given
 returns-then-is_closed-clause-given g c = λ room.
-    let same : g.A.Accepts.given c.accept.new.self ≡ g.A.Accepts.given c.loop.door =
+    let same : g.A.Accepts.given c.accept.new.self ≡ g.A.Accepts.given c.loop-turn.door =
     search rules in
-    same ∙ all_given _ _ _ c.args.common.now.per_worker _ _ _ c.loop.invariant.took (search rules)
-    room
+    same ∙ all_given _ _ _ c.args.common.now.per_worker _ _ _ c.loop-turn.invariant.took
+    (search rules) room
 
 pub returns-then-is_closed-clause-failed : goal.returns-then-is_closed-clause-failed
 returns-then-is_closed-clause-failed g c = λ room.
-    let before = all_failed _ _ _ c.args.common.now.per_worker _ _ _ c.loop.invariant.took
+    let before = all_failed _ _ _ c.args.common.now.per_worker _ _ _ c.loop-turn.invariant.took
     (search rules) room in
-    let after : g.A.Accepts.failed c.accept.new.self ≡ raised (g.A.Accepts.failed c.loop.door) =
-    search rules in
-    let turns = c.loop.invariant.turns in
+    let after : g.A.Accepts.failed c.accept.new.self
+    ≡ raised (g.A.Accepts.failed c.loop-turn.door) = search rules in
+    let turns = c.loop-turn.invariant.turns in
     omega arith
 
 pub returns-clause-run : goal.returns-clause-run
-returns-clause-run g c = run_of _ _ _ _ _ _ _ _ c.loop.invariant.took (search rules)
-    (λ open_yet. search rules) c.loop.invariant.shut
+returns-clause-run g c = run_of _ _ _ _ _ _ _ _ c.loop-turn.invariant.took (search rules)
+    (λ open_yet. search rules) c.loop-turn.invariant.shut
 
 pub returns-clause-once : goal.returns-clause-once
-returns-clause-once g c = forwarded_at_most _ _ _ _ _ _ c.loop.invariant.took
+returns-clause-once g c = forwarded_at_most _ _ _ _ _ _ c.loop-turn.invariant.took
 
 pub returns-clause-given : goal.returns-clause-given
 returns-clause-given g c = λ room.
-    all_given _ _ _ c.args.common.now.per_worker _ _ _ c.loop.invariant.took (search rules) room
+    all_given _ _ _ c.args.common.now.per_worker _ _ _ c.loop-turn.invariant.took (search rules)
+    room
 
 pub returns-clause-failed : goal.returns-clause-failed
 returns-clause-failed g c = λ room.
-    all_failed _ _ _ c.args.common.now.per_worker _ _ _ c.loop.invariant.took (search rules) room
+    all_failed _ _ _ c.args.common.now.per_worker _ _ _ c.loop-turn.invariant.took (search rules)
+    room
