@@ -52,6 +52,7 @@ fn main(rt: HostRuntime) -> ExitCode {
             explain,
             exchanges,
         } => check_file(
+            &rt,
             &files,
             &mut Explainer::new(alloc),
             alloc,
@@ -81,7 +82,7 @@ fn main(rt: HostRuntime) -> ExitCode {
             )
         }
         Run::Serve(options) => {
-            let logged = SystemLog::new(rt, options.log_lines);
+            let logged = SystemLog::new(rt, rt.process(), options.log_lines);
             serve_file(
                 &logged,
                 &mut Spawner::new(&logged),

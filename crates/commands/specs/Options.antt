@@ -74,4 +74,5 @@ serve_rows =
     ∷ row (option (codes "status") address None) (λ o. o.status)
     ∷ row (option (codes "log-lines") log_lines (Some (codes "plain"))) (λ o. o.log_lines)
     ∷ row (option (codes "mark") flag None) (λ o. o.marks)
+    ∷ row (option (codes "parent") (number_if_given 1 4194304) None) (λ o. o.parent)
     ∷ []

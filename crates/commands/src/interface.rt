@@ -45,6 +45,18 @@ fn described<'a>(alloc: Global, name: &'a str, about: &'a str, help: &'a str) ->
     Command::new(alloc, name).about(about).after_help(help)
 }
 
+/// A command of this name, whose text is in its long help alone: `-h` lists what it takes.
+fn described_at_length<'a>(
+    alloc: Global,
+    name: &'a str,
+    about: &'a str,
+    help: &'a str,
+) -> Command<'a>
+    ensures { IsWithoutGlobals (new_app name.now) result }
+{
+    Command::new(alloc, name).about(about).after_long_help(help)
+}
+
 /// A command of this name that takes `--limit N`.
 fn limited_alone<'a>(
     alloc: Global,
@@ -71,16 +83,12 @@ fn limited<'a>(
     with_argument(limited, explain_flag(alloc, says))
 }
 
-/// A command of this name that takes `CONFIG`.
-fn configured<'a>(
-    alloc: Global,
-    name: &'a str,
-    about: &'a str,
-    help: &'a str,
-) -> Result<Command<'a>, AllocError>
-    ensures { IfOk result (IsWithoutGlobals (with_rule (new_app name.now) config_rule)) }
+/// A command that takes nothing so far, and now takes `CONFIG`.
+fn configured<'a>(alloc: Global, command: Command<'a>) -> Result<Command<'a>, AllocError>
+    ensures { (app : App) → IsWithoutGlobals app command.entry
+        → IfOk result (IsWithoutGlobals (with_rule app config_rule)) }
 {
-    described(alloc, name, about, help).arg(config_argument(alloc))
+    command.arg(config_argument(alloc))
 }
 
 /// Two values, where both were made: what they are made of isn't told apart here.
@@ -133,13 +141,14 @@ fn load_command<'a>(alloc: Global) -> Result<Command<'a>, AllocError>
 fn check_command<'a>(alloc: Global) -> Result<Command<'a>, AllocError>
     ensures { IfOk result (IsWithoutGlobals check_app) }
 {
-    let check = configured(alloc, "check", CHECK_ABOUT, CHECK_HELP);
+    let check = configured(alloc, described(alloc, "check", CHECK_ABOUT, CHECK_HELP));
     let help = "Says more before: where the first fault is, and what is wanted there";
     let check = with_argument(check, explain_flag(alloc, help));
     with_argument(check, CHECKED_EXCHANGES.argument(alloc))
 }
 
-/// The command, where it was made, with the options of these rows, one behind the other.
+/// The command, where it was made, with the options of these rows, one behind the other: the text
+/// of its long help explains them.
 fn with_rows<'a>(
     alloc: Global,
     mut command: Result<Command<'a>, AllocError>,
@@ -149,7 +158,7 @@ fn with_rows<'a>(
         → IfOk result (IsWithoutGlobals (with_rows app rows.now)) }
 {
     for row in rows {
-        command = with_argument(command, row.argument(alloc));
+        command = with_argument(command, row.summary(alloc));
     }
     command
 }
@@ -158,7 +167,8 @@ fn with_rows<'a>(
 pub(crate) fn serve_command<'a>(alloc: Global) -> Result<Command<'a>, AllocError>
     ensures { IfOk result (IsWithoutGlobals serve_app) }
 {
-    let serve = configured(alloc, "serve", SERVE_ABOUT, SERVE_HELP);
+    let described = described_at_length(alloc, "serve", SERVE_ABOUT, SERVE_HELP);
+    let serve = configured(alloc, described);
     with_rows(alloc, serve, &SERVE_ROWS)
 }
 

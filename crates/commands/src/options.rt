@@ -103,6 +103,14 @@ macro_rules! option_row {
                           unread, bodies, memory, lost or exhausted; without it they have no such
                           line";
     } };
+    (Parent [$($row:tt)*] $($given:tt)*) => { $($row)*! { $($given)*
+        Parent "parent" "PID" [1 to 4194304]
+            listed "The process to drain with, by its id, " "; without it none"
+            told "            the id of the process that starts this one, " "; without it
+                          the gateway outlives that. Once it has ended, the gateway drains; it looks
+                          each second. admission-run gives it, so that killing admission-run leaves
+                          no gateway behind";
+    } };
 }
 
 /// The rows of some options, for a macro that takes them behind the tokens given.
@@ -133,6 +141,7 @@ macro_rules! serve_rows {
                 Status
                 LogLines
                 Mark
+                Parent
             ]
             $($rows)*
         }
@@ -140,7 +149,7 @@ macro_rules! serve_rows {
 }
 
 /// How many these are.
-pub(crate) const SERVE_OPTIONS: usize = 12;
+pub(crate) const SERVE_OPTIONS: usize = 13;
 
 /// The value of an option, by its row. The caller has the functions that read in scope.
 macro_rules! read {

@@ -181,4 +181,13 @@ impl OptionRow {
             None => argument,
         }
     }
+
+    /// The same for a command whose long help explains the option in its text: the list there
+    /// leaves it out, and that of the short help has it.
+    pub(crate) fn summary<'a>(&self, alloc: Global) -> Arg<'a>
+        ensures rule { rule_of result ≡ rule_of_row self.now }
+        ensures local { result.global ≡ false }
+    {
+        self.argument(alloc).hide_long_help(true)
+    }
 }

@@ -64,6 +64,9 @@ pub struct ServeOptions<'a> {
     pub log_lines: LogLines,
     /// Whether each of the gateway's own answers has the line `X-Admission` with its word.
     pub marks: bool,
+    /// The id of the process with which it drains, if it is given: that one started this process,
+    /// and once it has ended, another one is the parent.
+    pub parent: Option<u32>,
 }
 
 impl ServeOptions<'_> {
@@ -138,6 +141,7 @@ pub(crate) fn serve_options<'a>(matches: &ArgMatches<'a>) -> Option<ServeOptions
     let status = read!(matches, Status)?;
     let log_lines = read!(matches, LogLines)?;
     let marks = read!(matches, Mark);
+    let parent = read!(matches, Parent)?;
     if gives_both(matches) {
         return None;
     }
@@ -155,5 +159,6 @@ pub(crate) fn serve_options<'a>(matches: &ArgMatches<'a>) -> Option<ServeOptions
         status,
         log_lines,
         marks,
+        parent,
     })
 }

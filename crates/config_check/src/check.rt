@@ -10,10 +10,10 @@ ghost use Rattle.fault_lines.specs.FaultLine.{IsTold, fault_line};
 
 use super::accepted::write_accepted;
 use super::check_fault::{CheckFault, report_check_fault};
-use super::explained::{write_explanation, write_why_unread};
+use super::explained::{tell_why_unread, write_explanation, write_why_unread};
 use super::options::CheckOptions;
 use config_explain::Explainer;
-use config_file::{Opener, read_bytes, read_file_text};
+use config_file::{FileFault, Opener, read_bytes, read_file_text};
 use counted_io::Counted;
 use fault_lines::{DONE, FAULT};
 use std::alloc::Global;
@@ -23,9 +23,11 @@ use std::io::Write;
 /// answers the exit status.
 ///
 /// A file that can't be opened or read, isn't at its end after 2^25 reads, or has more than 1 MiB
-/// is reported as one that can't be read; where an explanation is asked for, its path and the
-/// system's words are written before, if they can be.
-pub fn check_file<F: Opener, W: Write, E: Write>(
+/// is reported as one that can't be read. Its path and the system's words are told beside, if they
+/// can be: where an explanation is asked for in `writer` before, and otherwise on the system's
+/// standard error behind.
+pub fn check_file<R: Eprint, F: Opener, W: Write, E: Write>(
+    rt: &R,
     files: &F,
     explainer: &mut Explainer,
     alloc: Global,
@@ -51,8 +53,20 @@ pub fn check_file<F: Opener, W: Write, E: Write>(
         Ok(text) => check_text(explainer, alloc, &text, options, writer, errors),
         Err(unread) => {
             write_why_unread(files, alloc, path, options.explain, writer);
-            report(errors, CheckFault::File(unread.into_fault()))
+            let fault = unread.into_fault();
+            let untold = is_untold(&fault, options.explain);
+            let status = report(errors, CheckFault::File(fault));
+            tell_why_unread(rt, files, alloc, path, untold);
+            status
         }
+    }
+}
+
+/// Whether it is the file itself that can't be read, and no explanation was asked for that has why.
+fn is_untold(fault: &FileFault, explain: bool) -> bool {
+    match fault {
+        FileFault::Read => !explain,
+        FileFault::Config(_) => false,
     }
 }
 

@@ -60,6 +60,21 @@ pub(crate) fn write_why_unread<F: Opener, W: Write>(
     }
 }
 
+/// Tells on standard error why a file can't be read, if that is untold, and if it can be told.
+pub(crate) fn tell_why_unread<R: Eprint, F: Opener>(
+    rt: &R,
+    files: &F,
+    alloc: Global,
+    path: &str,
+    is_untold: bool,
+) {
+    if is_untold {
+        if let Ok(words) = unread_line(files, alloc, path) {
+            let _ = rt.eprint(words.as_str());
+        }
+    }
+}
+
 /// The path of a file that can't be read, and why.
 fn unread_line<F: Opener>(files: &F, alloc: Global, path: &str) -> Result<String, AllocError> {
     let reason = why_unread(files, alloc, path)?;

@@ -1,5 +1,6 @@
 // What is worth knowing of the addresses, and of how callers are told apart.
 use crate::members::items_at;
+use crate::route_flaws::odd_routes_in;
 use gate_config::{Key, read_text};
 use gateway_settings::{Address, Settings};
 use std::alloc::AllocError;
@@ -26,9 +27,24 @@ pub(crate) fn explain_callers(
             )?;
         }
     }
+    explain_routes(out, table)?;
     let bypasses = items_at(table, Key::Bypass);
     for (place, rule) in bypasses.iter().enumerate() {
         explain_rule(out, "bypass", place, rule)?;
+    }
+    Ok(())
+}
+
+/// Says which routes don't match what they seem to.
+fn explain_routes(out: &mut String, table: &Table) -> Result<(), AllocError> {
+    let odd = odd_routes_in(*out.allocator(), table)?;
+    for route in &odd {
+        let (resolver, pattern) = (route.resolver, route.pattern.as_str());
+        let words = route.flaw.words();
+        write!(
+            out,
+            "resolver {resolver} has the route {pattern:?}: it {words}\n"
+        )?;
     }
     Ok(())
 }

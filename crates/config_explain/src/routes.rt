@@ -23,7 +23,7 @@ pub(crate) fn explain_route(out: &mut String, source: Source<'_>) -> Result<(), 
 }
 
 /// The patterns of a resolver that has some.
-fn routes_of(resolver: &Value) -> Option<&Table> {
+pub(crate) fn routes_of(resolver: &Value) -> Option<&Table> {
     value_at(resolver.as_table()?, Key::ResolverRoutes)?.as_table()
 }
 

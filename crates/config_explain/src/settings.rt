@@ -163,7 +163,7 @@ fn say_workers(out: &mut String, inside: u64) -> Result<(), AllocError> {
         write!(
             out,
             "too few workers: there are at most {MOST_WORKERS}, and callers past them wait unseen; \
-             lower the limit or the backlog\n"
+             serve it with --exchanges, or lower the limit or the backlog\n"
         )
     }
 }

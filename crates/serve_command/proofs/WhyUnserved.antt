@@ -18,6 +18,8 @@ use Rattle.gateway_settings.specs.declared.exchanges.TooFewExchanges.{TooFewExch
 use Rattle.gateway_settings.specs.Exchanges.{AreTooFew, settings_by}
 use Rattle.serving.specs.declared.fault.ServeFault.{ServeFault}
 use Rattle.serving.specs.declared.fault.ServeFault.TheVariants as Serve
+use Rattle.serve_command.specs.declared.descriptors.TooFewDescriptors.{TooFewDescriptors}
+use Rattle.serve_command.specs.Descriptors.{LackDescriptors}
 use Rattle.serve_command.specs.ServiceFault.{of_workers}
 use Rattle.serve_command.specs.Command.{AreOfFile, IsBound, IsBoundToo, IsOfAdmin, IsOfServing}
 use Rattle.serve_command.specs.Command.{IsUnboundToo, IsWhyOfService}
@@ -26,6 +28,7 @@ use Rattle.serve_command.specs.Command.{IsUnboundToo, IsWhyOfService}
 abbrev IsServing : ServiceFault → Type 0
 IsServing (Service.Config fault) = ⊥
 IsServing (Service.Exchanges few) = ⊥
+IsServing (Service.Descriptors few) = ⊥
 IsServing Service.Listen = Unit {0}
 IsServing Service.Memory = Unit {0}
 IsServing Service.Thread = Unit {0}
@@ -39,6 +42,7 @@ pub serving_is : {L : Type 0} (Bound : List ℕ → L → Type 0) (Unbound : Lis
     → IsServing f
 serving_is Bound Unbound listen admin status before after M (Service.Config fault) of = absurd of
 serving_is Bound Unbound listen admin status before after M (Service.Exchanges few) of = absurd of
+serving_is Bound Unbound listen admin status before after M (Service.Descriptors few) of = absurd of
 serving_is Bound Unbound listen admin status before after M Service.Listen of = tt
 serving_is Bound Unbound listen admin status before after M Service.Memory of = tt
 serving_is Bound Unbound listen admin status before after M Service.Thread of = tt
@@ -80,6 +84,12 @@ module _ {F W X : Type 0} (Unopened : Type 0) (Opened : F → Type 0)
       → AreOfFile Opened remaining s → AreTooFew exchanges s few.wanted → IfErr r Why
   why_too_few few is s had wanted = why (Service.Exchanges few) is (refl, (s, had, wanted))
 
+  -- too few descriptors are given for the exchanges
+  pub why_few_descriptors : (few : TooFewDescriptors) → r ≡ Err (Service.Descriptors few)
+      → (s : Settings) → AreOfFile Opened remaining s
+      → LackDescriptors (settings_by exchanges s) few → IfErr r Why
+  why_few_descriptors few is s had lack = why (Service.Descriptors few) is (refl, (s, had, lack))
+
   -- serving itself failed, once settings were had
   pub why_unserved : (fault : ServiceFault) → r ≡ Err fault → (s : Settings)
       → AreOfFile Opened remaining s → OfServing (settings_by exchanges s) fault
@@ -89,6 +99,7 @@ module _ {F W X : Type 0} (Unopened : Type 0) (Opened : F → Type 0)
       go : (f : ServiceFault) → OfServing (settings_by exchanges s) f → IsServing f → Why f
       go (Service.Config fault) of served = absurd served
       go (Service.Exchanges few) of served = absurd served
+      go (Service.Descriptors few) of served = absurd served
       go Service.Listen of served = (refl, (s, had, of))
       go Service.Memory of served = (refl, (s, had, of))
       go Service.Thread of served = (refl, (s, had, of))
@@ -137,6 +148,7 @@ module _ {L X : Type 0} (Bound : List ℕ → L → Type 0) (Unbound : List ℕ 
       go : (f : ServiceFault) → IsOfAdmin Unbound admin f → Of f
       go (Service.Config fault) why = absurd why
       go (Service.Exchanges few) why = absurd why
+      go (Service.Descriptors few) why = absurd why
       go Service.Listen why = inr (inl (bound, why))
       go Service.Memory why = bound
       go Service.Thread why = absurd why

@@ -25,6 +25,7 @@ use Rattle.serve_command.specs.declared.fault.ServiceFault.TheVariants as Servic
 use Rattle.gate_desk.specs.Desk.{IsDone}
 use Rattle.gate_desk.specs.State.{new_desk}
 use Rattle.serve_command.specs.Beside.{IsAdminServed, IsStatusServed}
+use Rattle.serve_command.specs.Descriptors.{LackDescriptors}
 use Rattle.serve_command.specs.GatewayRun.{AreCountersOfRuns, AreMiscounted}
 
 -- THE SETTINGS of a file that was opened as it says: its text was read whole, and holds them
@@ -102,6 +103,7 @@ abbrev pub IsOfServing : {L : Type 0} → (List ℕ → L → Type 0) → (List 
     → List ℕ → Option SocketAddrV4 → Option SocketAddrV4 → ℕ → ℕ → Type 0 → ServiceFault → Type 0
 IsOfServing Bound Unbound listen admin status before after Off (Service.Config fault) = ⊥
 IsOfServing Bound Unbound listen admin status before after Off (Service.Exchanges few) = ⊥
+IsOfServing Bound Unbound listen admin status before after Off (Service.Descriptors few) = ⊥
 IsOfServing Bound Unbound listen admin status before after Off Service.Listen =
     Unbound listen ⊎ (IsBound Bound listen × IsUnboundToo Unbound admin)
     ⊎ (IsBound Bound listen × IsBoundToo Bound admin × IsUnboundToo Unbound status)
@@ -117,6 +119,7 @@ IsOfServing Bound Unbound listen admin status before after Off Service.Write = �
 abbrev pub IsOfAdmin : (List ℕ → Type 0) → Option SocketAddrV4 → ServiceFault → Type 0
 IsOfAdmin Unbound admin (Service.Config fault) = ⊥
 IsOfAdmin Unbound admin (Service.Exchanges few) = ⊥
+IsOfAdmin Unbound admin (Service.Descriptors few) = ⊥
 IsOfAdmin Unbound admin Service.Listen = IsUnboundToo Unbound admin
 IsOfAdmin Unbound admin Service.Memory = Unit {0}
 IsOfAdmin Unbound admin Service.Thread = ⊥
@@ -129,9 +132,10 @@ abbrev pub HadSettings : {F : Type 0} → (F → Type 0) → (F → Option (List
 HadSettings Opened remaining Holds = (s : Settings) × AreOfFile Opened remaining s × Holds s
 
 -- WHY NOT: the file couldn't be opened, or its settings weren't had; or they were had, and the
--- number of exchanges that is given isn't enough for them, which is told with the least that is; or
--- serving by what they are for that number failed for its own cause, or the counters of those who
--- served couldn't be written. Before that nothing is written
+-- number of exchanges that is given isn't enough for them, which is told with the least that is, or
+-- it wants more descriptors than are given; or serving by what they are for that number failed for
+-- its own cause, or the counters of those who served couldn't be written. Before that nothing is
+-- written
 abbrev pub IsWhyOfService : {F W : Type 0} → Type 0 → (F → Type 0) → (F → Option (List ℕ))
     → Option ℕ → (Settings → ServiceFault → Type 0) → Counted W → Counted W → ServiceFault → Type 0
 IsWhyOfService {F} Unopened Opened remaining exchanges OfServing old new (Service.Config fault) =
@@ -140,6 +144,8 @@ IsWhyOfService {F} Unopened Opened remaining exchanges OfServing old new (Servic
     × IsUnset remaining before after fault)
 IsWhyOfService Unopened Opened remaining exchanges OfServing old new (Service.Exchanges few) =
     (new ≡ old) × HadSettings Opened remaining (λ s. AreTooFew exchanges s few.wanted)
+IsWhyOfService Unopened Opened remaining exchanges OfServing old new (Service.Descriptors few) =
+    (new ≡ old) × HadSettings Opened remaining (λ s. LackDescriptors (settings_by exchanges s) few)
 IsWhyOfService Unopened Opened remaining exchanges OfServing old new Service.Write =
     IsWriteCause old new × HadSettings Opened remaining (λ _. Unit {0})
 IsWhyOfService Unopened Opened remaining exchanges OfServing old new fault =

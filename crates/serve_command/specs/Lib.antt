@@ -1,6 +1,7 @@
 pub mod Beside
 pub mod Clients
 pub mod Command
+pub mod Descriptors
 pub mod GatewayRun
 pub mod Inside
 pub mod Priority

@@ -16,8 +16,13 @@ ghost use Rattle.serve_command.specs.ServiceFault.{service_fault_text};
 
 use crate::admin::AdminAddress;
 use crate::context::{ServeContext, serve_in};
+use crate::descriptors::check_descriptors;
 use crate::fault::{ServiceFault, report_service_fault};
-use crate::startup_lines::{log_admin, log_listening, log_status, log_unbound, log_unread};
+use crate::parent::ParentProcess;
+use crate::stacks::check_stacks;
+use crate::startup_lines::{
+    log_admin, log_listening, log_odd_routes, log_status, log_unbound, log_unread,
+};
 use clocks::ProgramClock;
 use commands::ServeOptions;
 use config_file::{FileFault, Opener, read_bytes, read_file_text};
@@ -56,7 +61,7 @@ pub fn serve_file<R, F, B, W, E>(
     errors: &mut Counted<E>,
 ) -> u8
 where
-    R: Net + Threads + Wait + SystemClock + Log + Sync,
+    R: Net + Threads + Wait + SystemClock + Log + ParentProcess + Sync,
     F: Opener,
     B: Binder,
     W: Write,
@@ -105,7 +110,7 @@ fn serve_and_count<R, F, B, W>(
     writer: &mut Counted<W>,
 ) -> Result<(), ServiceFault>
 where
-    R: Net + Threads + Wait + SystemClock + Log + Sync,
+    R: Net + Threads + Wait + SystemClock + Log + ParentProcess + Sync,
     F: Opener,
     B: Binder,
     W: Write,
@@ -131,6 +136,8 @@ where
     let text = read_config(rt, files, alloc, service.path)?;
     let read = read_bytes(alloc, &text)?;
     let settings = read.by_exchanges(service.exchanges)?;
+    check_descriptors(files, alloc, &settings)?;
+    log_odd_routes(rt, alloc, &settings, &text);
     let counters = serve_settings(rt, spawner, files, addresses, alloc, &settings, service)?;
     write_counters(writer, &counters)?;
     Ok(())
@@ -179,7 +186,7 @@ fn serve_settings<R, F, B>(
     service: &ServeOptions<'_>,
 ) -> Result<Counters, ServiceFault>
 where
-    R: Net + Threads + Wait + SystemClock + Log + Sync,
+    R: Net + Threads + Wait + SystemClock + Log + ParentProcess + Sync,
     F: Opener,
     B: Binder,
     B::Bound: Sync,
@@ -202,6 +209,7 @@ where
     let front = bind(rt, addresses, settings.listen.socket())?;
     let admin = bind_admin(rt, addresses, alloc, service.admin)?;
     let status = bind_status(rt, addresses, service.status)?;
+    check_stacks(rt, files, alloc, service)?;
     log_listening(rt, files, alloc, settings, service);
     let clock = ProgramClock::start(rt);
     let watch = make_watch(rt, alloc, &clock, settings, service)?;

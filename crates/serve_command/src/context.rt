@@ -13,6 +13,8 @@ ghost use Rattle.serve_command.specs.GatewayRun.{AreMiscounted, HasServedAt};
 
 use crate::admin::{AdminAddress, SideAddresses};
 use crate::gateway::{Gateway, serve_gateway};
+use crate::gateway_watch::GatewayWatch;
+use crate::parent::ParentProcess;
 use body_memory::SharedBodies;
 use clocks::ProgramClock;
 use commands::ServeOptions;
@@ -27,7 +29,7 @@ use std::alloc::{AllocError, Global};
 use std::net::Net;
 use std::sync::Wait;
 use std::thread::Threads;
-use std::time::Clock as SystemClock;
+use std::time::{Clock as SystemClock, Duration};
 use tasks::Spawner;
 use timed_io::BodyRates;
 
@@ -67,7 +69,7 @@ pub(crate) fn serve_in<'c, R, L>(
     service: &ServeOptions<'_>,
 ) -> Result<Option<Counters>, ServeFault>
 where
-    R: Net + Threads + Wait + SystemClock + Log + Sync,
+    R: Net + Threads + Wait + SystemClock + Log + ParentProcess + Sync,
     L: Closable + Sync,
     L::Stream: Send + Sync + Drop,
     L::From: Send + Sync,
@@ -94,6 +96,13 @@ where
     let (admin, status) = (context.admin, context.status);
     let shared = SharedLimits::new(alloc, context.settings, service)?;
     let side = SideAddresses::new(alloc, admin, status, clock, context.lame_duck);
+    let watch = GatewayWatch {
+        rt,
+        watcher: context.watch,
+        front: context.front,
+        parent: service.parent,
+        most: Duration::from_nanos(client_timeout_ns),
+    };
     let common = WorkerSettings {
         listener: context.front,
         settings: context.settings,
@@ -106,7 +115,7 @@ where
         backend_timeout_ns: call_time(service.backend_timeout_ms),
         marks: service.marks,
         report_every_ns: Some(context.watch.pace().look_ns),
-        watch: context.watch,
+        watch: &watch,
         alloc,
         bodies: &shared.bodies,
     };

@@ -1,11 +1,14 @@
 // Why a gateway ended, or didn't begin, and the line that says so.
 ghost use Rattle.fault_lines.specs.FaultLine.{IsTold, fault_line};
+ghost use Rattle.serve_command.specs.Descriptors.{few_descriptors_text};
 ghost use Rattle.serve_command.specs.ServiceFault.{service_fault_text};
 
+use crate::descriptors::TooFewDescriptors;
 use config_file::{FileFault, report_file_fault, report_too_few};
 use counted_io::{Counted, WriteFault};
 use fault_lines::report_fault;
 use gateway_settings::TooFewExchanges;
+use itoa::Buffer;
 use serving::ServeFault;
 use std::io::Write;
 
@@ -16,6 +19,8 @@ pub enum ServiceFault {
     Config(FileFault),
     /// The settings want more exchanges at once than are given.
     Exchanges(TooFewExchanges),
+    /// The exchanges at once want more descriptors than the system gives.
+    Descriptors(TooFewDescriptors),
     /// The address can't be bound.
     Listen,
     /// A growth was refused, before any worker was started.
@@ -48,6 +53,17 @@ impl From<TooFewExchanges> for ServiceFault {
 
     fn from(fault: TooFewExchanges) -> ServiceFault {
         ServiceFault::Exchanges(fault)
+    }
+}
+
+impl From<TooFewDescriptors> for ServiceFault {
+    ghost use Rattle.std.specs.Prelude.{◌≡◌};
+    ghost use Rattle.serve_command.specs.declared.fault.ServiceFault.TheVariants.{Descriptors};
+
+    ghost from_gives = { λ fault given. given ≡ Descriptors fault };
+
+    fn from(fault: TooFewDescriptors) -> ServiceFault {
+        ServiceFault::Descriptors(fault)
     }
 }
 
@@ -84,10 +100,30 @@ pub(crate) fn report_service_fault<E: Write>(errors: &mut Counted<E>, fault: &Se
     match fault {
         ServiceFault::Config(fault) => report_file_fault(errors, fault),
         ServiceFault::Exchanges(few) => report_too_few(errors, *few),
+        ServiceFault::Descriptors(few) => report_descriptors(errors, *few),
         ServiceFault::Listen => report_fault(errors, &["listen"]),
         ServiceFault::Memory => report_fault(errors, &["memory"]),
         ServiceFault::Thread => report_fault(errors, &["thread"]),
         ServiceFault::Miscounted => report_fault(errors, &["miscounted"]),
         ServiceFault::Write => report_fault(errors, &["write"]),
     }
+}
+
+/// Reports that the exchanges at once want more descriptors than the system gives, in one line that
+/// is flushed. A line that can't be written is dropped. It takes no memory.
+fn report_descriptors<E: Write>(errors: &mut Counted<E>, few: TooFewDescriptors)
+    ensures { IsTold E.contents errors.old errors.new
+        (fault_line (few_descriptors_text few)) }
+{
+    let (mut wanted, mut given) = (Buffer::new(), Buffer::new());
+    report_fault(
+        errors,
+        &[
+            "descriptors: ",
+            wanted.format(few.wanted),
+            " are wanted, ",
+            given.format(few.given),
+            " are given",
+        ],
+    );
 }

@@ -21,7 +21,9 @@ ghost use Rattle.serve_command.specs.GatewayRun.{all_joined, joined, passes_in, 
 ghost use Rattle.serve_command.specs.GatewayRun.{served_by};
 
 use crate::admin::SideAddresses;
+use crate::gateway_watch::GatewayWatch;
 use crate::operators::make_operators;
+use crate::parent::ParentProcess;
 use clocks::Clock;
 use gate_history::Blanks;
 use gate_laws::{exchanges_are_one_threads, reports_balance};
@@ -49,7 +51,7 @@ pub(crate) struct Gateway<'g, R: SystemClock, L, C> {
     /// The system that it runs on.
     pub(crate) rt: &'g R,
     /// What its workers share, its settings among that, and what each of them is asked to do.
-    pub(crate) common: &'g WorkerSettings<'g, L, C, Watcher<'g, R>>,
+    pub(crate) common: &'g WorkerSettings<'g, L, C, GatewayWatch<'g, R, L>>,
     /// How many workers it has: 1 to 4,096.
     pub(crate) workers: u32,
     /// What serves beside them.
@@ -64,7 +66,7 @@ pub(crate) fn serve_gateway<R, L, C>(
     gateway: &Gateway<'_, R, L, C>,
 ) -> Result<Option<Counters>, ServeFault>
 where
-    R: Net + Threads + Wait + SystemClock + Log + Sync,
+    R: Net + Threads + Wait + SystemClock + Log + ParentProcess + Sync,
     L: Closable + Sync,
     C: Clock + Sync,
     L::Stream: Send + Sync + Drop,
@@ -104,7 +106,7 @@ fn serve_named<M, R, L, C>(
 ) -> Result<Option<Counters>, ServeFault>
 where
     M: GateNaming + Send + Sync,
-    R: Net + Threads + Wait + SystemClock + Log + Sync,
+    R: Net + Threads + Wait + SystemClock + Log + ParentProcess + Sync,
     L: Closable + Sync,
     C: Clock + Sync,
     L::Stream: Send + Sync + Drop,
@@ -161,7 +163,7 @@ fn serve_through<M, R, G, L, C>(
 ) -> Result<Option<Counters>, ServeFault>
 where
     M: GateNaming + Send + Sync,
-    R: Net + Threads + Wait + SystemClock + Log + Sync,
+    R: Net + Threads + Wait + SystemClock + Log + ParentProcess + Sync,
     G: Limit + Send,
     L: Closable + Sync,
     C: Clock + Sync,
@@ -238,7 +240,7 @@ fn make_ports<'g, M: GateNaming, R: SystemClock, G: Limit, L, C>(
     let mut ports = Vec::new(common.alloc);
     for pass in passes {
         let port = Port::new(gateway.rt, gate, pass, common.clock);
-        ports.push(noting(port, common.watch, ports.len()))?;
+        ports.push(noting(port, common.watch.watcher, ports.len()))?;
     }
     Ok(ports)
 }

@@ -110,7 +110,7 @@ fn make_desk<'g, M: GateNaming, R: SystemClock, G: Limit, L, C>(
         pass,
         watch: DeskLog {
             rt: gateway.rt,
-            watch: common.watch,
+            watch: common.watch.watcher,
         },
         front: DeskListener::new(common.listener),
         own: DeskListener::new(operating.listener),

@@ -5,8 +5,10 @@ ghost use Rattle.std.specs.Prelude.{◌≡◌};
 ghost use Rattle.gateway_settings.specs.Settings.{AreSound};
 ghost use Rattle.serve_command.specs.Inside.{most_inside};
 
-use crate::descriptors::most_descriptors;
+use crate::descriptors::wanted_by;
+use crate::limits::{FILES, limit_on};
 use commands::ServeOptions;
+use config_explain::odd_routes;
 use config_file::{Opener, why_unread};
 use gateway_settings::Settings;
 use limit_kinds::LimitKind;
@@ -19,14 +21,17 @@ use std::net::SocketAddrV4;
 /// The most workers.
 const MOST_WORKERS: u64 = 64;
 
+/// The most exchanges at once.
+const MOST_EXCHANGES: u64 = 4_096;
+
 /// Logs where clients are listened for, by how many workers or exchanges at once, and the kind of
 /// limit.
 ///
 /// Three warnings may stand before it: where as many as may be in flight or wait exceed the
-/// workers, with how many are wanted, since who comes while all workers are taken waits unseen in
-/// the system's accept queue and isn't refused; where the workers may want more descriptors than
-/// the system gives; and where the backend is this gateway itself, since each request would then
-/// take one worker after the other.
+/// workers, since who comes while all workers are taken waits unseen in the system's accept queue
+/// and isn't refused; where the workers may want more descriptors than the system gives; and where
+/// the backend is this gateway itself, since each request would then take one worker after the
+/// other.
 pub(crate) fn log_listening<R: Log, F: Opener>(
     rt: &R,
     files: &F,
@@ -39,9 +44,7 @@ pub(crate) fn log_listening<R: Log, F: Opener>(
     let workers = service.threads();
     let inside = most_inside(settings, workers);
     if inside > u64::from(workers) {
-        let wanted = inside.saturating_add(1).min(MOST_WORKERS);
-        warn!(rt; target: "admission", inside, workers, wanted;
-            "limit, shares and backlog exceed the workers: past these nobody is served or refused");
+        log_crowd(rt, inside, workers);
     }
     log_descriptors(rt, files, alloc, workers, settings.backends);
     let address = settings.listen.socket();
@@ -53,6 +56,41 @@ pub(crate) fn log_listening<R: Log, F: Opener>(
     match service.exchanges {
         Some(exchanges) => log_exchanges(rt, settings, exchanges),
         None => log_workers(rt, settings, workers),
+    }
+}
+
+/// Logs that as many as may be in flight or wait exceed the workers, and what is enough for them:
+/// so many workers, or exchanges at once where so many workers can't be.
+fn log_crowd<R: Log>(rt: &R, inside: u64, workers: u32) {
+    let wanted = inside.saturating_add(1);
+    if wanted <= MOST_WORKERS {
+        warn!(rt; target: "admission", inside, workers, wanted;
+            "limit, shares and backlog exceed the workers: past these nobody is served or refused");
+    } else if wanted <= MOST_EXCHANGES {
+        let exchanges = wanted;
+        warn!(rt; target: "admission", inside, workers, exchanges;
+            "limit, shares and backlog exceed the workers: past these nobody is served or refused");
+    } else {
+        let most = MOST_EXCHANGES;
+        warn!(rt; target: "admission", inside, workers, most;
+            "limit, shares and backlog exceed the workers: past these nobody is served or refused");
+    }
+}
+
+/// Logs each route of a configuration that doesn't match what it seems to, by the text and the
+/// settings that it holds, unless it is out of memory for them.
+pub(crate) fn log_odd_routes<R: Log>(rt: &R, alloc: Global, settings: &Settings, text: &[u8]) {
+    if settings.rules.resolvers().is_empty() {
+        return;
+    }
+    let Ok(routes) = odd_routes(alloc, text) else {
+        return;
+    };
+    for route in &routes {
+        let (resolver, pattern) = (route.resolver, route.pattern.as_str());
+        let why = route.flaw.words();
+        warn!(rt; target: "admission", resolver, route = pattern, why;
+            "a route doesn't match what it seems to");
     }
 }
 
@@ -119,8 +157,8 @@ fn log_descriptors<R: Log, F: Opener>(
     workers: u32,
     backends: u32,
 ) {
-    let wanted = 2 * u64::from(workers) + u64::from(backends) + 8;
-    let Some(descriptors) = most_descriptors(files, alloc) else {
+    let wanted = wanted_by(workers, backends);
+    let Some(descriptors) = limit_on(files, alloc, FILES) else {
         return;
     };
     if descriptors < wanted {

@@ -1,11 +1,14 @@
 // Where a gateway logs to. Nothing is said of what standard error takes, or of what a clock tells.
 use crate::moment::second_now;
+use crate::parent::ParentProcess;
 use crate::priority::priority;
 use commands::LogLines;
 use log::kv::Source;
 use log::span::Spans;
 use log::{Line, Log, Metadata, Record};
 use std::fmt::Display;
+use std::os::unix::process::parent_id;
+use std::process::Process;
 use std::time::Clock;
 
 /// The system, and its log: each record is written to standard error as a line, as `log` shows it,
@@ -14,18 +17,25 @@ use std::time::Clock;
 #[derive(Clone, Copy, Drop)]
 pub struct SystemLog<R> {
     rt: R,
+    process: Process,
     lines: LogLines,
 }
 
 impl<R> SystemLog<R> {
-    /// Lines that begin so.
-    pub fn new(rt: R, lines: LogLines) -> SystemLog<R> {
-        SystemLog { rt, lines }
+    /// That of this process, with lines that begin so.
+    pub fn new(rt: R, process: Process, lines: LogLines) -> SystemLog<R> {
+        SystemLog { rt, process, lines }
     }
 
     /// The system that it is.
     pub(crate) fn system(&self) -> &R {
         &self.rt
+    }
+}
+
+impl<R> ParentProcess for SystemLog<R> {
+    fn parent_id(&self) -> u32 {
+        parent_id(self.process)
     }
 }
 

@@ -30,7 +30,8 @@ input; a file of that name is ./-.
 With --explain standard output first gets more, for a person. Of a fault: the line where it is, of
 a class, resolver or bypass which of them, and what the key holds, its range and its default. Of a
 configuration without fault: how many callers may be inside together, and so how many workers it
-wants, what has no effect, and which connections aren't kept.
+wants, what has no effect, which routes match nothing but themselves, and which connections aren't
+kept.
 
 With --exchanges N the configuration must fit into N exchanges at once, as `admission serve
 --exchanges N` requires: the greatest limit with what the shares add, the backlog with the places of
@@ -109,7 +110,8 @@ Writes `ok KIND INITIAL classes N resolvers R bypass B backlog Q` and exits with
 with 2 for a wrong command line, and otherwise with 1 and one line on standard error, which names
 the first key at fault:
 
-  admission: config: read         no such file, no permission, a folder, or more than 1 MiB
+  admission: config: read         no such file, no permission, a folder, or more than 1 MiB;
+                                  the next line has the path and the reason
   admission: config: toml         not TOML in UTF-8: a number with a unit, such as 5s, a text
                                   without quotes or with typographic ones, a key given twice
   admission: config: version      version is missing or isn't the whole number 1 or 2

@@ -143,10 +143,10 @@ limit learns from it:
 An ignored ending gives the permit back and changes no limit.
 
 The log on standard error says `listening`, with the address, the number of workers and the kind of
-limit, once the address is bound. Three warnings may come before it: the limit, or its max, with its
-shares and the backlog exceed the workers, so that callers past the workers wait unseen in the
-system's accept queue and are never refused; the workers may need more descriptors than the system
-gives; or the backend is this gateway itself.
+limit, once the address is bound. Warnings may come before it: a route matches no path, or none but
+itself; the limit, or its max, with its shares and the backlog exceed the workers, so that callers
+past the workers wait unseen in the system's accept queue and are never refused; the workers may
+need more descriptors than the system gives; or the backend is this gateway itself.
 
 While it serves the log says, at most once in ten seconds each and with the count since the last
 time, that the backend can't be reached, broke an answer or took too long, that no descriptor was
@@ -173,7 +173,7 @@ a POST needs the line `X-Admission: yes`, so that no page in a browser can send 
 At its end `serve` writes its counters to standard output, in one line:
 `admitted A bypassed B full F backlog G waiting W promoted P timed-out T success S ignored I
 dropped D`. SIGTERM, SIGINT, SIGHUP and SIGUSR1 end it at once, without counters; `admission-run`
-starts it so that these drain it.
+starts it so that these drain it, and so does the end of admission-run itself.
 
 Exits with status 0 once all workers have ended, with 2 for a wrong command line, and otherwise with
 1 and one line on standard error:
@@ -182,9 +182,13 @@ Exits with status 0 once all workers have ended, with 2 for a wrong command line
   admission: exchanges: E are wanted
                            the configuration needs E exchanges at once: give so many, or lower the
                            limit, the shares, `backlog` or `places`
+  admission: descriptors: W are wanted, G are given
+                           the exchanges at once want more open files than the system gives: raise
+                           `ulimit -n`, or take fewer exchanges
   admission: listen        the address can't be bound: another program has it, it isn't one of this
                            machine's, or its port is below 1024, which needs more rights
-  admission: memory        out of memory: lower the workers, the limit, `backlog` or `keep`
+  admission: memory        out of memory, also for the stacks of all threads, as the log then says:
+                           lower the workers, the limit, `backlog`, `keep` or `ulimit -s`
   admission: thread        a thread can't be started, and those that were have ended: take fewer
                            workers, or raise the system's limit on threads
   admission: miscounted    the gate's counters tell of calls that no worker made: never seen, and to

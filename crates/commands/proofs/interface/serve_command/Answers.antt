@@ -7,4 +7,4 @@ use Rattle.commands.proofs.interface.serve_command.Goals as goal
 pub returns : goal.returns
 returns c =
     c.with_rows.ensures (with_rule (new_app (codes "serve")) config_rule)
-    c.configured-serve.ensures
+    (c.configured-serve.ensures (new_app (codes "serve")) c.described_at_length-described.ensures)

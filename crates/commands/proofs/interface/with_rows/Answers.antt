@@ -10,7 +10,7 @@ pub loop-row-preserved : goal.loop-row-preserved
 loop-row-preserved c app has =
     let added =
     c.with_argument-command.ensures (with_rows app (take c.loop-row.row-index c.args.rows.now)) _
-    (c.loop-row.invariant app has) c.argument.ensures.rule c.argument.ensures.local in
+    (c.loop-row.invariant app has) c.summary.ensures.rule c.summary.ensures.local in
     subst (λ (made : App). IfOk c.with_argument-command.result (IsWithoutGlobals made))
     (sym (fold_more with_row app c.args.rows.now c.loop-row.row-index _ c.loop-row-test.true))
     added

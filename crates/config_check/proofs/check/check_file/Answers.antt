@@ -44,13 +44,13 @@ returns-in-Ok-clause-refused g c is =
 
 pub returns-in-Err-clause-refused : goal.returns-in-Err-clause-refused
 returns-in-Err-clause-refused g c is =
-    let fault = c.into_fault.result in (
+    let fault = c.into_fault-fault.result in (
       Check.File fault,
-      c.report.ensures.told,
+      c.report-status.ensures.told,
       inl (
         fault,
         refl,
-        (c.in-Err.unread, c.into_fault.ensures, c.in-Err.ensures.refused),
+        (c.in-Err.unread, c.into_fault-fault.ensures, c.in-Err.ensures.refused),
         search rules,
       ),
     )

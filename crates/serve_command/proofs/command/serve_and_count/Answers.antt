@@ -5,9 +5,10 @@ use Rattle.config_file.specs.Reading.{IsFaultOf, Says}
 use Rattle.gateway_settings.specs.declared.settings.Settings.{Settings}
 use Rattle.gateway_settings.specs.Exchanges.{settings_by}
 use Rattle.serve_command.specs.Command.{IsOfServing, IsServedBy, Miscounts}
+use Rattle.serve_command.specs.Descriptors.{LackDescriptors}
 use Rattle.serve_command.specs.declared.fault.ServiceFault.TheVariants as Service
-use Rattle.serve_command.proofs.WhyUnserved.{serving_is, why_too_few, why_unread, why_unserved}
-use Rattle.serve_command.proofs.WhyUnserved.{why_unset, why_unwritten}
+use Rattle.serve_command.proofs.WhyUnserved.{serving_is, why_few_descriptors, why_too_few}
+use Rattle.serve_command.proofs.WhyUnserved.{why_unread, why_unserved, why_unset, why_unwritten}
 use Rattle.serve_command.proofs.command.serve_and_count.Goals as goal
 
 pub returns-in_err-text-clause-refused :
@@ -57,6 +58,28 @@ returns-in_err-settings-clause-refused g c =
     (threads_of c.args.service.now) s))
     c.args.writer.now c.from_residual-in_err-settings.result few is s
     (had.0, bytes, had.2, had.3, says) c.in_err-settings.ensures.too_few
+
+pub returns-in_err-check_descriptors-clause-refused :
+    goal.returns-in_err-check_descriptors-clause-refused
+returns-in_err-check_descriptors-clause-refused g c =
+    let had = c.in_ok-text.ensures.text in
+    let bytes = c.in_ok-text.text.items in
+    let s = c.in_ok-read.read in
+    let says : Says bytes (Ok s) = search rules in
+    let by = settings_by c.args.service.now.exchanges s in
+    let is_by : c.in_ok-settings.settings ≡ by = search rules in
+    let few = c.in_err-check_descriptors.field-0.0 in
+    let is : c.from_residual-in_err-check_descriptors.result ≡ Err (Service.Descriptors few) =
+    search rules in
+    let path = c.args.service.now.path.now in
+    why_few_descriptors (g.F.Opener.unopened path) (g.F.Opener.opened path) g.F.File.Read.remaining
+    c.args.service.now.exchanges (λ s. IsOfServing g.B.Binder.bound g.B.Binder.unbound s.listen
+    c.args.service.now.admin c.args.service.now.status (refused_of c.args.spawner.now)
+    (refused_of c.args.spawner.now) (Miscounts g.B.Binder.bound g.B.Bound.Listener.lost
+    (threads_of c.args.service.now) s))
+    c.args.writer.now c.from_residual-in_err-check_descriptors.result few is s
+    (had.0, bytes, had.2, had.3, says)
+    (subst (λ (it : Settings). LackDescriptors it few) is_by c.in_err-check_descriptors.ensures)
 
 pub returns-in_err-counters-clause-refused : goal.returns-in_err-counters-clause-refused
 returns-in_err-counters-clause-refused g c =

@@ -64,6 +64,20 @@ returns-in_err-status-clause-refused g c =
     c.in_ok-admin.ensures.bound)
     c.in_err-status.ensures.unbound
 
+pub returns-in_err-check_stacks-clause-refused : goal.returns-in_err-check_stacks-clause-refused
+returns-in_err-check_stacks-clause-refused g c =
+    let before = refused_of c.args.spawner.now in
+    let fault = c.in_err-check_stacks.field-0.0 in
+    let is : c.from_residual-in_err-check_stacks.result ≡ Err fault = search rules in
+    let same : socket_v4_text c.socket.result ≡ c.args.settings.now.listen = search rules in
+    lacks_memory g.B.Binder.bound g.B.Binder.unbound c.args.settings.now.listen
+    c.args.service.now.admin c.args.service.now.status before before
+    (Miscounts g.B.Binder.bound g.B.Bound.Listener.lost
+    (threads_of c.args.service.now) c.args.settings.now)
+    c.from_residual-in_err-check_stacks.result fault is
+    (bound_at g.B.Binder.bound (socket_v4_text c.socket.result) c.args.settings.now.listen
+    c.in_ok-front.front same c.in_ok-front.ensures.bound) c.in_err-check_stacks.ensures
+
 pub returns-in_err-watch-clause-refused : goal.returns-in_err-watch-clause-refused
 returns-in_err-watch-clause-refused g c =
     let before = refused_of c.args.spawner.now in
