@@ -50,7 +50,8 @@ OF_NO_FAULT = [
     (
         "backlog = 9\n" + AIMD + "max = 40\ninitial = 4\n" + LIVE_OF_TWO,
         "greatest limit 40, shares of it 24 and backlog 9 are 73 together\n"
-        "too few workers: there are at most 64, and callers past them wait unseen; lower the limit or the backlog\n"
+        "too few workers: there are at most 64, and callers past them wait unseen; serve it with --exchanges, or lower "
+        "the limit or the backlog\n"
         "limit.timeout_us = 5000000 is above a second: answers up to that only raise the limit, however long the "
         "queue at the backend\n",
     ),
@@ -67,7 +68,8 @@ OF_NO_FAULT = [
     (
         "backlog = 24\n" + PLAIN + "initial = 40\n",
         "greatest limit 40, shares of it 0 and backlog 24 are 64 together\n"
-        "too few workers: there are at most 64, and callers past them wait unseen; lower the limit or the backlog\n",
+        "too few workers: there are at most 64, and callers past them wait unseen; serve it with --exchanges, or lower "
+        "the limit or the backlog\n",
     ),
     (
         "wait = false\n" + FIXED,
@@ -121,11 +123,23 @@ OF_NO_FAULT += [
             "capitals\n",
         ),
         (PLAIN + 'initial = 40\n[[bypass]]\nkind = "method"\nmethod = "M-SEARCH"\n', ""),
+        # of two resolvers the one that is meant is named
+        (
+            PLAIN + "initial = 40\n" + BY_ROUTE + '[[resolver]]\nkind = "header"\nheader = "A"\n',
+            "resolver 2 tells a class by a header, and there is no class\n",
+        ),
+        (
+            PLAIN + 'initial = 40\n[[resolver]]\nkind = "header"\nheader = "A"\n' + BY_ROUTE,
+            "resolver 1 tells a class by a header, and there is no class\n",
+        ),
         # an empty table of routes does nothing, and isn't told
         (PLAIN + "initial = 40\n" + BY_ROUTE, ""),
     ]
 ]
-TOO_FEW = "too few workers: there are at most 64, and callers past them wait unseen; lower the limit or the backlog\n"
+TOO_FEW = (
+    "too few workers: there are at most 64, and callers past them wait unseen; serve it with --exchanges, or lower the "
+    "limit or the backlog\n"
+)
 OF_NO_FAULT += [
     (
         "backlog = 0\n" + PLAIN + "initial = 64\n",
@@ -145,14 +159,44 @@ OF_NO_FAULT += [
         "capitals\n",
     ),
 ]
-# Nor are routes told of without a slash in front, or with a colon for a segment.
 OF_NO_FAULT += [
     (
         "backlog = 0\n" + FIXED + LIVE_OF_TWO + rules,
         "greatest limit 4, shares of it 3 and backlog 0 are 7 together\n"
-        "serve it with --workers 8 or more, at most 64\n",
+        "serve it with --workers 8 or more, at most 64\n"
+        f'resolver {number} has the method "get" with small letters: methods are compared byte for byte, and clients '
+        "send capitals\n",
     )
-    for rules in ('[[resolver]]\nkind = "header"\nheader = "A"\n', BY_ROUTE + '"a" = "live"\n"/b/:id" = "live"\n')
+    for number, rules in (
+        (1, BY_METHOD.replace("GET", "get") + BY_METHOD),
+        (2, BY_METHOD + BY_METHOD.replace("GET", "get")),
+    )
+]
+# Routes that don't match what they seem to are told, of each resolver in the order of their bytes; braces name what
+# varies, and a colon within a segment is a sign like any other.
+NO_PATH = "matches no path: each path begins with /"
+ITSELF = "matches this path alone: {name} stands for one segment, and {*rest} for the rest"
+HEADER = '[[resolver]]\nkind = "header"\nheader = "A"\n'
+OF_ROUTES: list[tuple[str, int, list[tuple[str, str | None]]]] = [
+    (BY_ROUTE, 1, [("a", NO_PATH), ("/b/:id", ITSELF)]),
+    (HEADER + BY_ROUTE, 2, [("/live/*", ITSELF), ("live/..", NO_PATH), ("/:a/b", ITSELF), ("x/:y", NO_PATH)]),
+    (BY_ROUTE, 1, [("*", ITSELF), ("**", NO_PATH), ("/a/b*c/d", ITSELF), ("/*rest", ITSELF), ("{name}", NO_PATH)]),
+    (BY_ROUTE, 1, [("/a/{id}", None), ("/b/{*rest}", None), ("/c:d/e", None), ("/f/:", None), ("/", None)]),
+    (BY_ROUTE, 1, [("{*rest}", None)]),
+    (BY_ROUTE, 1, [("/{{*}}/a", None), ("/a/{id}/*", ITSELF)]),
+]
+OF_NO_FAULT += [
+    (
+        "backlog = 0\n" + FIXED + LIVE_OF_TWO + rules + "".join(f'"{it}" = "live"\n' for it, _ in routes),
+        "greatest limit 4, shares of it 3 and backlog 0 are 7 together\n"
+        "serve it with --workers 8 or more, at most 64\n"
+        + "".join(
+            f'resolver {number} has the route "{it}": it {flaw}\n'
+            for it, flaw in sorted(routes, key=lambda it: it[0])
+            if flaw
+        ),
+    )
+    for rules, number, routes in OF_ROUTES
 ]
 # The same of addresses that are one.
 OF_ONE_ADDRESS = [
@@ -245,7 +289,8 @@ OF_ADVISED_EXCHANGES = [
     (
         1024,
         AUTO,
-        "backlog = 100, derived from --exchanges 1024\n" + BODIES.format(1024)
+        "backlog = 100, derived from --exchanges 1024\n"
+        + BODIES.format(1024)
         + "limit.max = 923, derived from --exchanges 1024\n"
         "greatest limit 923, shares of it 0 and backlog 100 are 1023 together\n" + OTHERS_HOLD.format(1024, 1),
     ),
@@ -258,15 +303,18 @@ OF_ADVISED_EXCHANGES = [
     (
         100,
         "backlog = 10\n" + AUTO + "max = 20\n",
-        BODIES.format(100) + "greatest limit 20, shares of it 0 and backlog 10 are 30 together\n"
+        BODIES.format(100)
+        + "greatest limit 20, shares of it 0 and backlog 10 are 30 together\n"
         + OTHERS_HOLD.format(100, 70),
     ),
     (
         64,
         PLAIN + "initial = 200\n",
         "too few exchanges: 267 are wanted; with --exchanges 267:\n"
-        "backlog = 66, derived from --exchanges 267\n" + BODIES.format(267)
-        + "greatest limit 200, shares of it 0 and backlog 66 are 266 together\n" + OTHERS_HOLD.format(267, 1),
+        "backlog = 66, derived from --exchanges 267\n"
+        + BODIES.format(267)
+        + "greatest limit 200, shares of it 0 and backlog 66 are 266 together\n"
+        + OTHERS_HOLD.format(267, 1),
     ),
     (
         100,

@@ -1,6 +1,7 @@
 """Cases of `tests/serve` on the bound that all bodies share."""
 import re
 import socket
+from typing import Any
 
 from large import HALF, framed
 from loopback import Backend, Gateway, Later, Listener
@@ -43,7 +44,7 @@ class Sized(Backend):
 class Bodies(Operating):
     """Cases on `bodies_mib`."""
 
-    def bounded(self, backend: Listener, limit: str = "", **how: object) -> Operated:
+    def bounded(self, backend: Listener, limit: str = "", **how: Any) -> Operated:
         """A gateway with the least bound, whose own answers have marks."""
         return self.operated(backend, BOUND + limit, version=2, words=("--mark", *LONG_TIME), **how)
 

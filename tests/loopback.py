@@ -108,9 +108,9 @@ class Listener:
 class Scripted(Listener):
     """A backend that does the same with each of its connections."""
 
-    def __init__(self, script: Callable[[socket.socket], object]) -> None:
+    def __init__(self, script: Callable[[socket.socket], object], port: int = 0) -> None:
         self.script = script
-        super().__init__()
+        super().__init__(port)
 
     def serve(self, client: socket.socket) -> None:
         self.script(client)

@@ -8,6 +8,7 @@ from loopback import BODY, Backend, Later, read_all
 from operating import HELD, Operating
 from running import PATIENCE, free_port, until
 from sockets import PLAIN, passed_on
+from waiting import raised_descriptors
 
 AUTO = '\n\n[limit]\nkind = "auto"'
 FULL = b"HTTP/1.1 429 "
@@ -82,10 +83,64 @@ class ManyExchanges(Operating):
         wanted = {"admitted": 70, "waiting": 20, "promoted": 20, "success": 90, "backlog": 5}
         self.judge("counters of all of them", wanted, gate.ending())
 
+    def ends_where_descriptors_are_few(self, backend: Backend) -> None:
+        """Exchanges that want more descriptors than there are end with both numbers, behind the faults of the
+        configuration and before any address is bound; by the limit that holds."""
+        with socket.socket() as taken:
+            taken.bind(("127.0.0.1", 0))
+            taken.listen()
+            listen = f'listen = "127.0.0.1:{taken.getsockname()[1]}"\nbackend = "127.0.0.1:{backend.port}"\n'
+            for version, top, soft, exchanges, fault in (
+                (1, "", 135, 64, "descriptors: 136 are wanted, 135 are given"),
+                (1, "", 136, 64, "listen"),
+                (2, "backends = 64", 199, 64, "descriptors: 200 are wanted, 199 are given"),
+                (2, "backends = 64", 200, 64, "listen"),
+                (2, "backends = 64", 1024, 1024, "descriptors: 2120 are wanted, 1024 are given"),
+                (1, "", 61, 26, "exchanges: 27 are wanted"),
+                (1, "", 61, 27, "descriptors: 62 are wanted, 61 are given"),
+            ):
+                path = pathlib.Path(self.room) / f"descriptors{free_port()}.toml"
+                path.write_text(f'version = {version}\n{top}\n{listen}\n[limit]\nkind = "fixed"\n')
+                words = [self.program, "serve", str(path), f"--exchanges={exchanges}"]
+                limited = ["sh", "-c", f'ulimit -Sn {soft} && exec "$@"', "sh", *words]
+                ended = subprocess.run(limited, capture_output=True, text=True, timeout=PATIENCE)
+                told = (ended.returncode, ended.stdout, ended.stderr.splitlines()[-1:])
+                self.judge(f"{top!r}, {exchanges} with {soft}", (1, "", [f"admission: {fault}"]), told)
+
+    def tells_memory_from_threads(self, backend: Backend) -> None:
+        """Without memory for the stacks of all threads it ends with that, and the log has how much was asked for."""
+        admin, status = (f"127.0.0.1:{free_port()}" for _ in range(2))
+        for stack, kib, words, threads in (
+            ("8192", 8_192, (), 1_024),
+            ("8192", 8_192, ("--admin", admin), 1_028),
+            ("8192", 8_192, ("--admin", admin, "--status", status), 1_032),
+            ("4096", 4_096, ("--status", status), 1_028),
+            ("unlimited", 2_048, (), 1_024),
+        ):
+            front = ["sh", "-c", f'ulimit -s {stack} && ulimit -v 1500000 && exec "$@"', "sh"]
+            if subprocess.run([*front, self.program, "--version"], capture_output=True).returncode:
+                # A program that is compiled with checks of its memory takes terabytes of addresses by itself, and the
+                # system may not allow such a stack.
+                continue
+            path = pathlib.Path(self.room) / f"stacks{free_port()}.toml"
+            text = f'version = 2\nlisten = "127.0.0.1:{free_port()}"\nbackend = "127.0.0.1:{backend.port}"\n{AUTO}\n'
+            path.write_text(text)
+            command = [*front, self.program, "serve", str(path), "--exchanges", "1024", *words]
+            ended = subprocess.run(command, capture_output=True, text=True, timeout=PATIENCE)
+            said = f"there is no memory for the stacks of all threads threads={threads} stack_kib={kib}"
+            told = [it for it in ended.stderr.splitlines() if "[INFO " not in it]
+            wanted = (1, "", [f"[ERROR admission] {said}", "admission: memory"])
+            self.judge(f"no memory for {threads} stacks of {stack}", wanted, (ended.returncode, ended.stdout, told))
+            gate = self.gateway(backend, AUTO, version=2, exchanges=64, front=front)
+            self.judge(f"memory for 64 stacks of {stack}", passed_on(BODY), gate.ask(PLAIN))
+            gate.process.kill()
+
     def serves_with_the_most(self, backend: Backend) -> None:
-        """A gateway of 4,096 exchanges serves, and ends where it is drained."""
-        gate = self.operated(backend, AUTO, version=2, exchanges=4_096)
+        """A gateway of 4,096 exchanges serves, or of as many as there are descriptors for, and ends where it is
+        drained."""
+        most = min(4_096, (raised_descriptors(10_000) - 100) // 2)
+        gate = self.operated(backend, AUTO, version=2, exchanges=most)
         self.judge("its answer", passed_on(BODY), gate.ask(PLAIN))
-        self.judge("its threads", True, gate.shows(workers=4_096))
+        self.judge("its threads", True, gate.shows(workers=most))
         Later(gate.call, "POST /drain").result()
         self.judge("its counters", {"admitted": 1, "success": 1}, gate.ending())

@@ -175,7 +175,7 @@ class Telling(Served):
         self.judge("reports that nobody asked for", [], reports(quiet))
 
     def tells_troubles(self, backend: Backend) -> None:
-        """Refused connections and broken answers are told once in ten seconds, with their count, and once they are over."""
+        """Refused connections and broken answers are told once in ten seconds, with their count, and at their end."""
         gate = Gateway(self.program, self.room, closed_port(), workers=2, each=1_000_000)
         other = self.gateway(backend, workers=2, each=1_000_000)
         began, asked_for = time.monotonic(), 0
@@ -300,6 +300,21 @@ class Telling(Served):
                 f"descriptors={soft} wanted=136"
             ] * count
             self.judge(f"warnings at {soft} descriptors", wanted, [it for it in gate.log if "WARN" in it])
+
+    def warns_of_routes(self, backend: Backend) -> None:
+        """Routes that don't match what they seem to are told as it begins, each with its resolver, and no others."""
+        rules = '[[class]]\nname = "live"\npercent = 10\n[[resolver]]\nkind = "header"\nheader = "A"\n'
+        rules += '[[resolver]]\nkind = "route"\nroutes = { "/live/*" = "live", "/{a}" = "live", "live/.." = "live" }\n'
+        gate = self.gateway(backend, f'backlog = 0\n\n[limit]\nkind = "fixed"\ninitial = 1\n{rules}', workers=4)
+        wanted = [
+            f"[WARN  admission] a route doesn't match what it seems to resolver=2 route={route} why=matches {why}"
+            for route, why in (
+                ("/live/*", "this path alone: {name} stands for one segment, and {*rest} for the rest"),
+                ("live/..", "no path: each path begins with /"),
+            )
+        ]
+        self.judge("warnings of its routes", wanted, [it for it in gate.log if "WARN" in it])
+        gate.process.kill()
 
     def tells_of_descriptors(self, backend: Backend) -> None:
         """That no descriptor was free for the backend is reported as that, whosever the limit is."""

@@ -55,7 +55,6 @@ LISTEN, BACKEND = (
     packaged(rf'(?m)^{it} = "127\.0\.0\.1:(\d+)"', "packaging/admission.toml") for it in ("listen", "backend")
 )
 CLIENTS, BACKENDS = (packaged(rf"(?m)^{it} = ([\d_]+)", "packaging/admission.toml") for it in ("clients", "backends"))
-STARTUP = "crates/serve_command/src/startup_lines.rt"
 EXCHANGES, LIMIT_MS = packaged(r"EXCHANGES=(\d+)"), packaged(r"BACKEND_MS=(\d+)")
 MEMORY, TASKS, FILES = packaged(r"MemoryMax=(\d+)M"), packaged(r"TasksMax=(\d+)"), packaged(r"LimitNOFILE=(\d+)")
 CONTAINER = "packaging/Containerfile"
@@ -84,9 +83,8 @@ def slowest_upload() -> float:
 
 
 def descriptors_without_kept() -> float:
-    """The descriptors that the log's warning wants for the packaged exchanges, where no connection is kept."""
-    own = packaged(r"2 \* u64::from\(workers\) \+ u64::from\(backends\) \+ (\d+);", STARTUP)
-    return 2 * EXCHANGES() + own()
+    """The descriptors that a start wants for the packaged exchanges, where no connection is kept."""
+    return 2 * EXCHANGES() + constant("serve_command/src/descriptors.rt", "OWN")()
 
 
 def descriptors_wanted() -> float:
@@ -132,7 +130,7 @@ def of_installed() -> float:
 NUMBERS: tuple[tuple[str, str, tuple[Callable[[], float], ...]], ...] = (
     (OPERATING, r"It lists (\d+) files, (\d+) of them examples", (of_installed, of_examples)),
     (OPERATING, r"serves up to ([\d,]+) exchanges at once as an unprivileged user", (EXCHANGES,)),
-    (OPERATING, r"serve CONFIG --exchanges (\d+)`. Where", (EXCHANGES,)),
+    (OPERATING, r"`admission serve CONFIG --exchanges (\d+)` \|", (EXCHANGES,)),
     (OPERATING, r"The unit and the container set ([\d,]+)\. It is the number", (EXCHANGES,)),
     (OPERATING, r"the manifests for Kubernetes set N to ([\d,]+)", (EXCHANGES,)),
     (OPERATING, r"`TasksMax` \| N \+ 64 \| ([\d,]+) \| ([\d,]+) \|", (lambda: EXCHANGES() + 64, TASKS)),
@@ -162,27 +160,26 @@ NUMBERS: tuple[tuple[str, str, tuple[Callable[[], float], ...]], ...] = (
     (OPERATING, r"fewer\s+descriptors than these, two for\s+each\s+worker, (\d+), and `backends`", (OTHERS,)),
     (OPERATING, r"closed after its response, and ([\d,]+) may be open", (PLACES,)),
     ("docs/TUNING.md", r"Then none is kept, and ([\d,]+)\s+may wait", (PLACES,)),
-    (OPERATING, r"came in the last (\w+) second may still", (NEWCOMER,)),
+    (OPERATING, r"connected within the last (\w+) second may still", (NEWCOMER,)),
     (OPERATING, r"may go on sending for T more, (\w+) seconds at most", (LINGERS,)),
-    (OPERATING, r"is noticed in some (\w+) seconds all the same", (seconds_unasked,)),
+    (OPERATING, r"is noticed in about (\w+) seconds", (seconds_unasked,)),
     (
         OPERATING,
         r"doesn't read for (\w+) seconds, once the system's buffers",
         (constant("tcp_backend/src/dialing.rt", "UNTAKEN_MS", 1e3),),
     ),
     (OPERATING, r"draws the last (\w+) minutes", (minutes_kept,)),
-    (OPERATING, r"in the first (\w+) second so is whoever comes", (OPEN,)),
+    (OPERATING, r"and so are new ones in the first (\w+) second", (OPEN,)),
     (OPERATING, r"the unit starts the program again (\w+) seconds later", (RESTARTS,)),
-    (
-        OPERATING,
-        r"\*\*(\w+) callers are served at once\*\*, each with (\w+) second for its request and (\w+) for",
-        (AT_ONCE, OPERATOR, OPERATOR),
-    ),
     (OPERATING, r"\[\[class\]\]`, at most (\w+)", (constant("partitions/src/table.rt", "MOST_KNOWN"),)),
     (OPERATING, r"\[\[resolver\]\]`, at most (\w+)", (constant("gate_config/src/document.rt", "MOST_RULES"),)),
     (OPERATING, r"\[\[bypass\]\]`, at most (\w+)", (constant("gate_config/src/document.rt", "MOST_RULES"),)),
     (OPERATING, r"a table of at most (\d+) patterns", (constant("gate_config/src/resolver.rt", "MOST_ROUTES"),)),
-    (OPERATING, r"a limit above (\d+) is never reached", (constant("config_explain/src/settings.rt", "MOST_WORKERS"),)),
+    (
+        OPERATING,
+        r"a limit above (\d+), which is never reached",
+        (constant("config_explain/src/settings.rt", "MOST_WORKERS"),),
+    ),
     (FORMATS, r"at most one line comes in (\w+) seconds", (SPELL,)),
     (
         FORMATS,
@@ -234,11 +231,11 @@ NUMBERS: tuple[tuple[str, str, tuple[Callable[[], float], ...]], ...] = (
     (RUNBOOK, r"`/health` is 503 for (\w+) seconds while clients are still", (AFTER,)),
     (
         RUNBOOK,
-        r"Who is still inside after (\d+) seconds is cut off, and the status is (\d+)",
+        r"in progress after (\d+) seconds are cut off, and the status is (\d+)",
         (WAIT, packaged(r"SuccessExitStatus=(\d+)")),
     ),
-    (RUNBOOK, r"`--after (\d)` for the lame duck", (AFTER,)),
-    (RUNBOOK, r"since the unit starts the program again (\w+) seconds later", (RESTARTS,)),
+    (RUNBOOK, r"`--after (\d)` for the (\w+) seconds\)", (AFTER, AFTER)),
+    (RUNBOOK, r"because the unit starts the program again (\w+) seconds later", (RESTARTS,)),
     (RUNBOOK, r"says `draining` there for (\w+) seconds", (AFTER,)),
     (RUNBOOK, r"the backend's answer is unreadable, cut off or above (\d+) MiB", (BODY,)),
     (RUNBOOK, r"the request's head is above (\d+) KiB or (\d+) lines", (lambda: HEAD() / 1024, LINES)),
@@ -248,12 +245,8 @@ NUMBERS: tuple[tuple[str, str, tuple[Callable[[], float], ...]], ...] = (
         (lambda: 10.0, BODY, slowest_upload),
     ),
     (RUNBOOK, r"come at most once in (\w+) seconds each", (SPELL,)),
-    (RUNBOOK, r"draws the last (\w+) minutes of what the report tells", (minutes_kept,)),
-    (
-        RUNBOOK,
-        r"or with `--workers N`; where I is (\d+) or more",
-        (constant("serve_command/src/startup_lines.rt", "MOST_WORKERS"),),
-    ),
+    (RUNBOOK, r"draws the last (\w+) minutes of what the report shows", (minutes_kept,)),
+    (RUNBOOK, r"After `most=(\d+)` no number", (constant("serve_command/src/startup_lines.rt", "MOST_EXCHANGES"),)),
     (RUNBOOK, r"`admission-drain 127\.0\.0\.1:(\d+)`", (ADMIN,)),
     (RUNBOOK, r"restart admission && curl [^:]*://127\.0\.0\.1:(\d+)/health", (ADMIN,)),
     (RUNBOOK, r"restart admission-second && curl [^:]*://127\.0\.0\.1:(\d+)/health", (lambda: ADMIN() + 10,)),
@@ -275,7 +268,8 @@ NUMBERS: tuple[tuple[str, str, tuple[Callable[[], float], ...]], ...] = (
     (OPERATING, r"targets: \['127\.0\.0\.1:(\d+)'\]", (ADMIN,)),
     (OPERATING, r"`--status 0\.0\.0\.0:(\d+)`", (STATUS,)),
     (FORMATS, r"So for `localhost:(\d+)`", (ADMIN,)),
-    (RUNBOOK, r"With ([\d,]+) descriptors the clients of ([\d,]+) exchanges take them all", (EXCHANGES, EXCHANGES)),
+    (OPERATING, r"`admission: descriptors: (\d+) are wanted, (\d+) are given`", (descriptors_wanted, EXCHANGES)),
+    (KUBERNETES, r"`admission: descriptors: (\d+) are wanted`", (descriptors_wanted,)),
     (
         KUBERNETES,
         r"With ([\d,]+) exchanges and `backends = (\d+)` the gateway needs ([\d,]+) descriptors, or ([\d,]+) without",

@@ -1,5 +1,6 @@
 """Cases of `tests/serve` on clients that send the bodies of their requests slowly."""
 import contextlib
+import functools
 import select
 import socket
 import time
@@ -24,6 +25,11 @@ def closed_of(clients: list[socket.socket]) -> list[int]:
     return [number for number, it in enumerate(clients) if it in ready]
 
 
+def has_closed(clients: list[socket.socket], count: int) -> bool:
+    """Whether so many of the clients have been closed, or were sent something."""
+    return len(closed_of(clients)) >= count
+
+
 class SlowBodies(Operating):
     """Cases on `--body-rate`. Six of eight threads are three quarters of them."""
 
@@ -37,7 +43,8 @@ class SlowBodies(Operating):
             self.judge("five of eight threads that read", [], closed_of(slow))
             for closed in ([1], [1, 2]):
                 slow.append(self.begins(stack, gate, b""))
-                self.judge("one more is one too many", True, until(lambda: len(closed_of(slow)) >= len(closed)))
+                enough = functools.partial(has_closed, slow, len(closed))
+                self.judge("one more is one too many", True, until(enough))
                 time.sleep(2 * UNSEEN)
                 self.judge("and closes the one that is furthest behind", closed, closed_of(slow))
             self.judge("what closed clients get", [b"", b""], [read_all(slow[1]), read_all(slow[2])])
@@ -84,7 +91,7 @@ class SlowBodies(Operating):
             gate = self.operated(backend, EIGHT, exchanges=8, words=words)
             with contextlib.ExitStack() as stack:
                 slow = [self.begins(stack, gate, b"") for _ in range(7)]
-                found = until(lambda: closed_of(slow), seconds=8 * UNSEEN)
+                found = until(functools.partial(has_closed, slow, 1), seconds=8 * UNSEEN)
                 self.judge(f"seven slow ones of eight with {words}", is_closed, found)
             Later(gate.call, "POST /drain").result()
             self.judge("counters of none", {}, gate.ending())
