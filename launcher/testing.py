@@ -34,14 +34,14 @@ WHAT = {
 SCRIPTS = (
     ("program", "lines", "keys", "limits", "load", "manual", "documents", "page"),
     ("messages", "exchanges", "classes", "serve", "memory"),
-    ("model", "launcher", "install", "hosts", "alerts"),
+    ("model", "launcher", "install", "hosts", "alerts", "packaged"),
     ("days",),
 )
 # What the program without proofs passes, and those scripts whose long cases are left out then.
 QUICK = (
     ("program", "load", "lines", "keys"),
     ("messages", "exchanges", "page"),
-    ("serve", "classes", "limits", "manual", "documents", "alerts"),
+    ("serve", "classes", "limits", "manual", "documents", "alerts", "packaged"),
     ("days",),
 )
 SHORT = ("program", "load", "messages", "serve", "days")
