@@ -15,7 +15,7 @@ from backends import Backend, Day
 from rivals import QUEUES, RULES, Queue, Rival
 from traffic import Call, Gateway, Limited, allow_many_sockets, percentile, tables_of
 from wayward import Callers, Wayward
-from words import above_zero, reader_with_program
+from words import above_zero, add_earlier, reader_with_program
 
 DRAG = 0.1
 OWN, PACKAGED = "packaged", "packaging/admission.toml"
@@ -261,9 +261,7 @@ def reader_of_runs(text: str | None) -> argparse.ArgumentParser:
     reader.add_argument(
         "--results", type=pathlib.Path, metavar="FILE", help="where a line of figures goes for each run"
     )
-    reader.add_argument(
-        "--from", type=pathlib.Path, metavar="FILE", dest="earlier", help="prints the tables of such a file"
-    )
+    add_earlier(reader)
     return reader
 
 

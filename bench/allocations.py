@@ -1,5 +1,5 @@
-#!/usr/bin/env python3
-"""Counts the allocations of an exchange: bench/allocations.py PROGRAM
+#!/usr/bin/env -S python3 -B
+"""How often does an exchange allocate? bench/allocations.py PROGRAM
 
 One worker of `admission serve` (PROGRAM, built) runs under gdb, which counts its calls of malloc, realloc and free. A
 request and its answer have 5 header lines each, then 40, and the answer 13 bytes. It prints the allocations of one
@@ -12,6 +12,7 @@ import sys
 import tempfile
 
 from one_worker import said_of
+from words import program_of
 
 CALLS = ("malloc", "realloc", "free")
 FEW, MANY = 10, 60
@@ -40,9 +41,9 @@ def calls_of(program: str, room: pathlib.Path, count: int, exchanges: int) -> li
 
 
 def main() -> None:
-    if len(sys.argv) != 2 or not shutil.which("gdb"):
-        sys.exit("usage: bench/allocations.py PROGRAM, with gdb installed")
-    program = str(pathlib.Path(sys.argv[1]).resolve())
+    program = program_of(__doc__)
+    if not shutil.which("gdb"):
+        sys.exit("allocations.py: gdb isn't installed")
     print(f"| Header lines each way | {' | '.join(CALLS)} |\n|---|---|---|---|")
     with tempfile.TemporaryDirectory(prefix="admission-bench-") as folder:
         for count in (5, 40):

@@ -1,15 +1,16 @@
-#!/usr/bin/env python3
-"""What answers that break off cost, by the kind of limit: bench/broken.py
+#!/usr/bin/env -S python3 -B
+"""What do answers cost that break off, by the kind of limit? bench/broken.py
 
-Some of a backend's answers break off behind their whole time, whatever its load, and each is a drop. Calls come evenly
-at twice the rate that the backend can serve, for a minute of virtual time, before backends that slow down by a tenth
-where as many wait as they have slots. The limits are those of tests/reference.py. A cell has the good
-answers of the last 40 seconds as a part of those that the backend would give at its slots, less what breaks off; and
-the mean limit then. No clock is used, so it prints the same each time.
+Some of a backend's answers break off after their whole time, whatever its load, and each is a drop. Calls arrive evenly
+at twice the rate that the backend can serve, for a minute of virtual time. A backend is a tenth slower while as many
+requests wait at it as it has slots. The limits are those of tests/reference.py. A cell has the good answers of the last
+40 seconds as a part of those that the backend would give at its slots, less what breaks off; and the mean limit then.
+No clock is used, so it prints the same each time. It takes about two minutes.
 """
 import dataclasses
 
 from virtual import Backend, Run
+from words import reader_of
 
 PARTS = (0.0, 0.01, 0.02, 0.05, 0.1)
 BACKENDS = (
@@ -42,6 +43,7 @@ def limits(slots: int, takes: int) -> dict[str, list[str]]:
 
 
 def main() -> None:
+    reader_of(__doc__).parse_args()
     for backend in BACKENDS:
         print(f"\n| {backend} | " + " | ".join(f"{it:.0%} broken" for it in PARTS) + " |")
         print("|---" * (1 + len(PARTS)) + "|")

@@ -1,9 +1,9 @@
-#!/usr/bin/env python3
-"""Times `SharedGate::close`: the audit of a gate, by how many receipts its caller kept.
+#!/usr/bin/env -S python3 -B
+"""What does closing a shared gate cost, by how many receipts its caller kept? bench/close.py
 
-Usage: bench/close.py. The program is close/, over `shared_gate`: one caller makes pairs of acquire and end, keeps their
-receipts in one list, and closes the gate. It prints the time of closing alone, in nanoseconds a receipt: the median,
-the least and the greatest of nine runs. Needs rt.
+The program is close/, over `shared_gate`: one caller makes pairs of acquire and end, keeps their receipts in one list,
+and closes the gate, which audits them. It prints the time of closing alone, in nanoseconds a receipt: the median, the
+least and the greatest of nine runs. Needs rt.
 """
 import pathlib
 import statistics

@@ -1,17 +1,21 @@
 #!/usr/bin/env -S python3 -B
-"""Clients that ask for nothing, and new ones, beside kept ones that are busy:
+"""What do idle and silent clients cost, and new ones, beside busy ones with keepalive?
 
     bench/crowd.py PROGRAM [--seconds S] [--rounds N] [--workers W,..] [--results FILE] [--further PROXY]
                    [--only WORD,..]
     bench/crowd.py --from FILE
 
-It starts what bench/proxy.py has with connections kept on both sides: nginx, HAProxy, a bare proxy (`bare_kept.rs`) and
-PROGRAM with each number of workers, all on one processor with their callers. Of each it tells the requests a second of
-64 busy clients alone; of as many beside 1,000 that have asked once and are idle since, and how many of these were kept
-to the end; how long a new client waits for its answer beside 9,000 that have sent nothing, of 100 that come one after
-the other, and how long it takes until one is answered within 20 ms once all of those have gone at once; and the times
-of four new clients at a time, each with one request, beside 64 busy ones. Rounds go from proxy to proxy in turns, and
-figures are medians of them; the longest waits are of all.
+It starts what bench/proxy.py has with keepalive on both sides: nginx, HAProxy, a bare proxy (`bare_kept.rs`) and
+PROGRAM with each number of workers, all on one processor with their callers. For each it prints
+
+- the requests a second of 64 busy clients alone, and beside 1,000 that have asked once and are idle since, with how
+  many of these were kept to the end;
+- how long a new client waits for its answer beside 9,000 that have sent nothing, of 100 new clients one after the
+  other, and how long it takes until one is answered within 20 ms once all of the 9,000 have left at once;
+- the times of four new clients at a time, each with one request, beside 64 busy ones.
+
+Rounds go from proxy to proxy in turns, and figures are medians of them; the longest waits are of all. The whole takes
+about seven minutes.
 
 The figures of each round are a line of --results, from which --from prints the table. Needs Debian's nginx-light,
 haproxy and wrk, and rustc.

@@ -1,21 +1,21 @@
 #!/usr/bin/env -S python3 -B
-"""Many exchanges at once, beside nginx and HAProxy, in one run:
+"""Does it serve thousands of requests at once, as nginx and HAProxy do in the same run?
 
     bench/exchanges.py PROGRAM [--seconds S] [--rounds N] [--exchanges N] [--part P] [--results FILE] [--only WORD,..]
     bench/exchanges.py --from FILE
 
-PROGRAM serves with `--exchanges N` (2,048 by default). It stands before backends of 200 slots that take 100 ms for an
-answer, of 500 × 200 ms and of 1,000 × 1 s (`slots.rs`), with the limit `auto`, with `auto` and a backlog of 10, and
-with fixed limits of half of the slots, of as many and of half as many again; where nothing else is said the backlog is
-the default one. Beside it stand nginx, with as many connections by `limit_conn` as the backend has slots, and HAProxy
-with such a `maxconn` and a queue in which a request waits for as long as an answer takes. All keep their connections on
-both sides. PROGRAM runs under the policy batch, as it is packaged.
+PROGRAM serves with `--exchanges N` (2,048 by default) in front of backends of 200 slots that take 100 ms for an answer,
+of 500 × 200 ms and of 1,000 × 1 s (`slots.rs`): with the limit `auto`, with `auto` and a backlog of 10, and with fixed
+limits of half of the slots, of as many and of half as many again. The backlog is the default one otherwise. Beside it
+are nginx, whose `limit_conn` is the backend's slots, and HAProxy with such a `maxconn` and a queue in which a request
+waits for as long as an answer takes. All have keepalive on both sides. PROGRAM runs under the policy batch, as it is
+packaged.
 
-Calls come at fixed moments, whether or not those before are answered (`open_loop.rs`), at half of what the backend
-serves and at twice that; a time counts from the moment when a call was due, and an answer is good within five times the
-backend's time, three where that is a second. Each visit takes half as long again as S seconds, or as four answers if
-these take longer, and its first third isn't counted. Nor is a first round at either rate, so that a limit is found by
-then. A refusal that took 0.9 seconds or more waited in the backlog until `timeout_ms`; the others are refusals at once.
+Calls arrive at fixed moments, whether or not earlier calls are answered (`open_loop.rs`), at half of what the backend
+serves and at twice that. A time counts from the moment when a call was due. An answer is good within five times the
+backend's time, or three times one second. Each visit takes half as long again as S seconds, or as four answers if these
+take longer, and its first third isn't counted. Nor is a first round at either rate, so that a limit is found by then. A
+refusal that took 0.9 seconds or more waited in the backlog until `timeout_ms`; the others are immediate.
 
 A last table has the memory of nginx, HAProxy and PROGRAM with a fixed limit of N less one: when it is idle, the most
 with a quick backend and up to 256 clients, and the most with one of 50 ms and as many clients as that limit; and how

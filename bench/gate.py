@@ -1,5 +1,5 @@
-#!/usr/bin/env python3
-"""Times calls through a shared gate against a plain Rust gate, in one run.
+#!/usr/bin/env -S python3 -B
+"""What does a call of a shared gate cost, beside a plain Rust gate in the same run?
 
 Usage: bench/gate.py [--still] [--rolling] [--history | --all] [--seen]. The product's side is gate/, a program over
 `shared_gate`; the peer is plain_gate.rs. They run in turn and must do the same work: pairs of acquire and end, with

@@ -1,11 +1,11 @@
 #!/usr/bin/env -S python3 -B
-"""Judges rules for drops before backends that none was made on: bench/held_out.py [--seed SEED] [--only WORD..]
+"""What if the backend refuses by itself, and no rule was made on it? bench/held_out.py [--seed SEED] [--only WORD..]
 
 The limits are that of tests/reference.py, two of forms.py, and the first once more with a `max`: the rate that a
 backend takes times what an answer takes, or what it takes in flight. Backends refuse above so many calls a second, of
-which a part may come at once, above so many in each second, or above so many in flight; others answer a part of the
-calls 503 at once, whatever their load. Then come the backends of bench/adapts, and those of their bad days that have
-quick answers. In virtual time they meet calls at twice what they serve, or at 0.75 of it where that is said and on the
+which a part may arrive at once, above so many in each second, or above so many in flight; others answer a part of the
+calls 503 at once, whatever their load. Then follow the backends of bench/adapts, and those of their bad days that have
+quick answers. In virtual time they get calls at twice what they serve, or at 0.75 of it if the row says so and on the
 days; evenly, or with --seed drawn at random.
 
 A row is of one kind of backends. A cell has the part of the calls that the backend refused by itself, on average and at

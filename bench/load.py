@@ -1,9 +1,8 @@
-#!/usr/bin/env python3
-"""Times `admission load` by 1, 2 and 4 workers on the same traces.
+#!/usr/bin/env -S python3 -B
+"""How fast is `admission load`, by 1, 2 and 4 workers on the same traces? bench/load.py PROGRAM
 
-Usage: bench/load.py PROGRAM. Each trace is run with each number of workers in turn, nine times. It prints the calls a
-second, from the calls in the history and the median time of the whole run: reading the trace, the calls, the audit and
-the two lines.
+Each trace is run with each number of workers in turn, nine times. It prints the calls a second, from the calls in the
+history and the median time of the whole run: reading the trace, the calls, the audit and the two lines.
 """
 import re
 import statistics

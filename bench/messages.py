@@ -1,12 +1,11 @@
-#!/usr/bin/env python3
-"""Times the reading of requests against a plain Rust reader over `httparse`, in one run.
+#!/usr/bin/env -S python3 -B
+"""How fast is a request read, beside a plain Rust reader over `httparse`? bench/messages.py [FOLDER]
 
-Usage: bench/messages.py [FOLDER]. The product's side is messages/, a program over `wire`; the peer is
-plain_messages.rs over the crate `httparse`, whose sources are in FOLDER, or where Debian's
-`librust-httparse-dev` puts them. Both read the same request from memory over and over, and must find
-bodies of the same length; the parts of a head share its bytes at the peer, as hyper's do. It prints the
-median time of a reading on both sides, the median ratio of the turns, and that of the processor time.
-Needs rt and rustc.
+The product's side is messages/, a program over `wire`; the peer is plain_messages.rs over the crate `httparse`, whose
+sources are in FOLDER, or where Debian's `librust-httparse-dev` puts them. Both read the same request from memory over
+and over, and must find bodies of the same length. At the peer the parts of a head share its bytes, as hyper's do. It
+prints the median time of a reading on both sides, the median ratio of the turns, and that of the processor time. Needs
+rt and rustc.
 """
 import argparse
 import pathlib

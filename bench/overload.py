@@ -1,9 +1,10 @@
-#!/usr/bin/env python3
-"""Measures what overload costs, with and without the gateway: bench/overload.py PROGRAM [SECONDS]
+#!/usr/bin/env -S python3 -B
+"""What does overload cost, with and without the gateway? bench/overload.py PROGRAM [SECONDS]
 
 The origin answers 4 requests at a time in 20 ms, so 200 a second. Callers arrive four times as often, at a fixed rate,
-and wait for up to a second. The gateway has a fixed limit of 4 and a backlog of 4, in which callers wait for up to 50
-ms. It prints the share of calls answered with 200, the time of such an answer, and the time of a refusal.
+for SECONDS (10), and wait for up to a second. The gateway has a fixed limit of 4 and a backlog of 4, in which callers
+wait for up to 50 ms. It prints the share of calls answered with 200, the time of such an answer, and the time of a
+refusal.
 """
 import asyncio
 from collections.abc import Sequence

@@ -1,11 +1,11 @@
-#!/usr/bin/env python3
-"""Tells which functions the user time of an exchange goes to: bench/profile.py PROGRAM [--top N] [--keep FOLDER]
+#!/usr/bin/env -S python3 -B
+"""What does an exchange cost in instructions? bench/profile.py PROGRAM [--top N] [--keep FOLDER]
 
 One worker of `admission serve` (PROGRAM, built) runs under valgrind's callgrind, which counts instructions. A small
-client asks as `wrk` does, a connection a request, and an origin answers as nginx does: 5 header lines and 13 bytes. It
-prints the instructions of one exchange by function, those of the function itself and those with all that it calls: the
-difference of two runs, divided by the difference of their exchanges, so that the start doesn't count. What the kernel
-does isn't in it. With --keep the files of callgrind stay in FOLDER. Needs valgrind.
+client asks as `wrk` does, with a connection for each request, and an origin answers as nginx does: 5 header lines and
+13 bytes. It prints the instructions of one exchange by function, those of the function itself and those with all that
+it calls: the difference of two runs, divided by the difference of their exchanges, so that the start doesn't count.
+What the kernel does isn't counted. With --keep the files of callgrind stay in FOLDER. Needs valgrind.
 """
 import collections
 import pathlib

@@ -1,5 +1,5 @@
 #!/usr/bin/env -S python3 -B
-"""Times `admission serve` beside nginx and HAProxy, in one run:
+"""How many requests a second does `admission serve` answer, beside nginx and HAProxy in the same run?
 
     bench/proxy.py PROGRAM [--seconds S] [--rounds N] [--workers W,..] [--processors P,..] [--results FILE]
                    [--answer BYTES] [--upload BYTES] [--refused] [--open PART,..] [--further PROXY] [--before PROGRAM]

@@ -1,8 +1,8 @@
-#!/usr/bin/env python3
-"""Times `admission replay` against a plain Rust program on the same scripts, in one run.
+#!/usr/bin/env -S python3 -B
+"""How fast is `admission replay`, beside a plain Rust program on the same scripts? bench/replay.py PROGRAM
 
-Usage: bench/replay.py PROGRAM. Each script is run by both programs in turn, five times; the least time of each counts,
-and both must write the same text. Needs rustc for the plain program.
+Each script is run by both programs in turn, five times; the least time of each counts, and both must write the same
+text. Needs rustc for the plain program, `plain.rs`.
 """
 import pathlib
 import random

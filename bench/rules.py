@@ -1,17 +1,17 @@
 #!/usr/bin/env -S python3 -B
-"""What each rule of the packaged limit is worth: bench/rules.py [--results FILE] [--only WORD..] [--seed SEED]
+"""What is each rule of the packaged limit worth? bench/rules.py [--results FILE] [--only WORD..] [--seed SEED]
 
-The limit is that of tests/reference.py, once with all of its rules and then without one of them at a time, before the
-backends of bench/adapts in virtual time (simulation.py). Calls come at twice what a backend can serve, and at 0.75 of
-it on the bad days; evenly, or with --seed drawn at random. A row has the part of the best fixed limit's good answers,
-on average and at least, and the number of backends with too little: once the limit had a third of the time (0.9), and
-from the cold start on (0.85); the part of the calls that the two backends which shed refused by themselves; and the
-part that wasn't answered 200 from 8 to 13 seconds after the bad days, on average and at most, with the number of days
-above a twentieth. No clock is used, so it prints the same each time. The backend of 64 slots is left out, since it
-fills all 64 workers.
+The limit is that of tests/reference.py, once with all of its rules and then without one of them at a time, in front of
+the backends of bench/adapts in virtual time (simulation.py). Calls arrive at twice what a backend can serve, and at
+0.75 of it on the bad days; evenly, or with --seed drawn at random. A row has the part of the best fixed limit's good
+answers, on average and at least, and the number of backends with too little: once the limit had a third of the time
+(0.9), and from the cold start (0.85); the part of the calls that the two backends which refuse by themselves refused;
+and the part that wasn't answered 200 from 8 to 13 seconds after the bad days, on average and at most, with the number
+of days above a twentieth. No clock is used, so it prints the same each time. The backend of 64 slots is omitted, since
+it fills all 64 workers.
 
-Of each run a line goes to --results, and what stands there isn't run again. --only takes the rows whose name has one of
-the words in it. The whole takes some four minutes of one processor.
+A line for each run goes to --results, and a run that is there isn't repeated. --only takes the rows whose name has one
+of the words in it. The whole takes about four minutes of one processor.
 """
 import concurrent.futures
 import json

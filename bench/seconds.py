@@ -1,5 +1,5 @@
 #!/usr/bin/env python3
-"""Adds up the processor seconds of the gate by crate: bench/seconds.py [--log FILE] [--] COMMAND..
+"""What do proofs cost the gate, in processor seconds of each crate? bench/seconds.py [--log FILE] [--] COMMAND..
 
 Runs a command of the toolchain, `rt ci` or `rt must-fail clocks`, and looks at all processes below it each half second.
 What a process has taken of the processors, as /proc told it last, counts for the crate that it names behind

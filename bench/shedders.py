@@ -1,5 +1,5 @@
 #!/usr/bin/env -S python3 -B
-"""What backends that refuse by themselves come to under several rules for drops: bench/shedders.py [--seed SEED]
+"""What if the backend refuses by itself, under several rules for drops? bench/shedders.py [--seed SEED]
 
 Backends refuse above so many calls in flight, above so many a second of which a tenth may come at once, and above so
 many in each second; others answer a part of the calls 503 at once, whatever their load. In virtual time they meet calls

@@ -1,9 +1,8 @@
-#!/usr/bin/env python3
-"""Times `admission simulate` against a plain Rust program on the same traces, in one run.
+#!/usr/bin/env -S python3 -B
+"""How fast is `admission simulate`, beside a plain Rust program on the same traces? bench/simulate.py PROGRAM
 
-Usage: bench/simulate.py PROGRAM. Each trace of `traces.py` is run by both programs, which must write the same text, and
-then by both in turn, nine times. It prints the median times, and the median of the ratios. Needs rustc for the plain
-program, `plain_simulate.rs`.
+Each trace of `traces.py` is run by both programs, which must write the same text, and then by both in turn, nine times.
+It prints the median times, and the median of the ratios. Needs rustc for the plain program, `plain_simulate.rs`.
 """
 import pathlib
 import statistics

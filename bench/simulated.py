@@ -1,20 +1,20 @@
 #!/usr/bin/env -S python3 -B
-"""What the packaged limit reaches in virtual time before the backends of bench/adapts: bench/simulated.py [RESULTS]
+"""Does virtual time agree with what bench/adapts measured? bench/simulated.py [RESULTS]
 
-The limit is that of tests/reference.py, which is written from the documents alone. Calls come evenly at twice what a
-backend can serve, and a way through the gateway and back takes half a millisecond. A row has the part of the good
-answers of the best fixed limit that is reached from the cold start on, and once the limit had a third of the time; and
-beside them what a run of bench/adapts measured, where its RESULTS are named, with how far the second is from that. No
-clock is used, so it prints the same each time. The backend of 64 slots is left out, since it fills all 64 workers.
+The limit is that of tests/reference.py, which is written from the documents alone. Calls arrive evenly at twice what a
+backend can serve, and a way through the gateway and back takes half a millisecond. A row has the part of the best fixed
+limit's good answers: from the cold start, and once the limit had a third of the time. Beside it is what a run of
+bench/adapts measured, if its RESULTS are named, and how far the second figure is from that. No clock is used, so it
+prints the same each time. The backend of 64 slots is omitted, since it fills all 64 workers.
 """
 import concurrent.futures
 import json
 import pathlib
-import sys
 
 from backends import FURTHER, PLAIN, Backend
 from simulation import Simulated, fixed
 from virtual import reference
+from words import reader_of
 
 AGREES = 0.05
 
@@ -28,10 +28,10 @@ def row_of(backend: Backend) -> tuple[float, float]:
     return part_of(Simulated(reference.Auto(1, 4, 53), backend).run().reached(), fixed(backend))
 
 
-def measured(file: str) -> dict[str, tuple[float, float]]:
-    """The same parts of a run of bench/adapts, by the backend."""
+def measured(file: pathlib.Path) -> dict[str, tuple[float, float]]:
+    """Such parts of a run of bench/adapts, by the backend."""
     found: dict[str, dict[str, tuple[float, float]]] = {}
-    for it in map(json.loads, pathlib.Path(file).read_text(encoding="utf-8").splitlines()):
+    for it in map(json.loads, file.read_text(encoding="utf-8").splitlines()):
         backend, _, name = it["run"].partition(" | ")
         found.setdefault(backend, {})[name] = it["good"], it["settled"]
     parts = {}
@@ -42,10 +42,11 @@ def measured(file: str) -> dict[str, tuple[float, float]]:
     return parts
 
 
-def main(words: list[str]) -> None:
-    if len(words) > 1:
-        sys.exit(__doc__)
-    found = measured(words[0]) if words else {}
+def main() -> None:
+    reader = reader_of(__doc__)
+    reader.add_argument("results", type=pathlib.Path, nargs="?", metavar="RESULTS")
+    given = reader.parse_args()
+    found = measured(given.results) if given.results else {}
     backends = [it for it in (*PLAIN, *FURTHER) if it.slots < 64]
     print("| Backend | simulated | measured | |\n|---|---|---|---|")
     with concurrent.futures.ProcessPoolExecutor() as pool:
@@ -57,4 +58,4 @@ def main(words: list[str]) -> None:
             print("| " + " | ".join(cells) + " |", flush=True)
 
 
-main(sys.argv[1:])
+main()

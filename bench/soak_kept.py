@@ -1,13 +1,14 @@
 #!/usr/bin/env -S python3 -B
-"""A long run over kept connections: bench/soak_kept.py PROGRAM [EXCHANGES] [--at-once N]
+"""Do the counts agree after 200,000 exchanges? bench/soak_kept.py PROGRAM [EXCHANGES] [--at-once N]
 
 It sends EXCHANGES exchanges, by default 200,000, through a gateway with two classes and a bypass rule, over connections
 that callers keep as long as they may: with and without bodies, by a length and by chunks, HEAD, two requests in one
-piece, a request byte by byte, one that can't be read, answers of overload, and callers who go before their answer. Each
-request has a number that the backend answers with, so that a caller sees whether an answer is of its own request. At
-the end the counts of /metrics are compared with those of callers and backend. The status is 1 where they don't agree,
-where an answer was another one's, or where connections weren't kept. The gateway has 16 workers and 72 callers at a
-time; with --at-once it serves with `--exchanges N`, a limit of up to half of N, and nine callers for ten exchanges.
+piece, a request byte by byte, one that can't be read, answers of overload, and callers that leave before their answer.
+Each request has a number that the backend answers with, so that a caller sees whether an answer is of its own request.
+At the end the counts of /metrics are compared with those of callers and backend. The status is 1 if they don't agree,
+if an answer was another request's, or if connections weren't kept. The gateway has 16 workers and 72 callers at a time;
+with --at-once it serves with `--exchanges N`, a limit of up to half of N, and nine callers for ten exchanges. With
+--at-once 1024 the proved program takes 16 seconds.
 """
 import asyncio
 import collections

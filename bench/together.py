@@ -1,13 +1,14 @@
-#!/usr/bin/env python3
-"""What a limit without numbers finds beside others: bench/together.py
+#!/usr/bin/env -S python3 -B
+"""Can several gateways share a backend, and classes a gateway, in virtual time? bench/together.py
 
-Each limit is `auto`, beside it one that is fixed at what is right. The first table has several gateways before one
+Each limit is `auto`, beside it one that is fixed at what is right. The first table has several gateways in front of one
 backend, each with a limit of its own, beside those whose `max` is its part of the slots and a headroom. The second has
 one gateway whose two classes take different times, with a share of 600 thousandths for the quick one and without. Calls
-come evenly at twice what the backend can serve. A cell has the good answers of the last 40 seconds of a minute as a
+arrive evenly at twice what the backend can serve. A cell has the good answers of the last 40 seconds of a minute as a
 part of those that the backend would give, and the mean limits then. No clock is used, so it prints the same each time.
 """
 from virtual import Backend, Run
+from words import reader_of
 
 BACKENDS = (
     Backend(8, 50_000_000),
@@ -34,6 +35,7 @@ def print_heads(*heads: str) -> None:
 
 
 def main() -> None:
+    reader_of(__doc__).parse_args()
     print_heads("Backend", "one", "two", "two, each with its part as `max`", "three", "two, fixed at halves")
     for it in BACKENDS:
         half = it.slots // 2

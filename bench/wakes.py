@@ -1,11 +1,11 @@
-#!/usr/bin/env python3
-"""Times endings at a shared gate while callers wait, in one run.
+#!/usr/bin/env -S python3 -B
+"""Do sleeping waiters slow an ending at a shared gate down? bench/wakes.py [--pairs N] [--promotions N] [--turns N]
 
-Usage: bench/wakes.py [--pairs N] [--promotions N] [--turns N]. The program, wakes/, is over `shared_gate`. With 0, 1,
-10, 100 and 1,000 callers that sleep as they wait, it makes pairs of acquire and end that promote no waiter. With 10 and
-more it makes endings of which each promotes the newest waiter, which ends its permit in turn and waits again: with
-fewer, a permit is mostly taken anew before anybody waits for it. Printed are the time of a pair and the time from one
-ending to the next, and their ratios to those with no waiter, or with 10, by medians of the turns. Needs rt.
+The program is wakes/, over `shared_gate`; each waiter has a thread. With 0, 1, 10, 100 and 1,000 callers that sleep as
+they wait without room, it makes pairs of acquire and end that promote no waiter. With 10 and more it makes endings of
+which each promotes the newest waiter, which ends its permit in turn and waits again: with fewer, a permit is mostly
+acquired again before anybody waits for it. It prints the time of a pair and the time from one ending to the next, and
+their ratios to those with no waiter, or with 10, by medians of the turns. Needs rt.
 """
 import pathlib
 import statistics

@@ -22,6 +22,25 @@ def reader_with_program(text: str | None) -> argparse.ArgumentParser:
     return reader
 
 
+class Earlier(argparse.Action):
+    """`--from FILE`, the file of an earlier run, which needs no program."""
+
+    def __call__(
+        self,
+        parser: argparse.ArgumentParser,
+        namespace: argparse.Namespace,
+        values: typing.Any,
+        option_string: str | None = None,
+    ) -> None:
+        namespace.earlier, namespace.program = values, None
+
+
+def add_earlier(reader: argparse.ArgumentParser) -> None:
+    """Adds `--from` to a reader with `--program`."""
+    told = "prints the tables of such a file, and runs nothing"
+    reader.add_argument("--from", type=pathlib.Path, metavar="FILE", dest="earlier", action=Earlier, help=told)
+
+
 def reader_with_results(text: str | None) -> argparse.ArgumentParser:
     """A reader of PROGRAM, of the file that a line of figures goes to for each visit, and of one whose tables are
     printed in place of a run."""

@@ -1,14 +1,16 @@
 #!/usr/bin/env -S python3 -B
-"""A new client beside clients that send their bodies slowly, with nginx and HAProxy in the same run:
+"""What a slow client costs: how long a new client waits beside clients that send their bodies slowly, with nginx and
+HAProxy in the same run:
 
-    bench/slow_bodies.py PROGRAM [--slow N] [--again S] [--rate BYTES] [--exchanges N] [--seconds S]
+    bench/slow_clients.py PROGRAM [--slow N] [--again S] [--rate BYTES] [--exchanges N] [--seconds S]
 
-N clients (2,000 by default) each send the head of a request with a body of 100,000 bytes, and then one byte each
-second. One that is closed comes again a second later, or after S seconds of --again, which may be 0. Beside them a new
-client each 10 ms asks for a small answer, for S seconds (10). Printed are, for each proxy, the median, the 99th percentile and the greatest of their times in
-milliseconds, counted from the moment before the connect, how many got no answer within ten seconds, and how many slow
-clients were closed. PROGRAM serves with `--exchanges` (1,024) and `--body-rate` (500), and once more with a rate of 0,
-which closes none. nginx and HAProxy need a few bytes for each slow client, as one thread serves many.
+N clients (2,000 by default) each send the head of a request with a body of 100,000 bytes, and then one byte a second. A
+client that was closed reconnects a second later, or after the S seconds of --again, which may be 0. Beside them a new
+client asks for a small answer every 10 ms, for the S seconds of --seconds (10). For each proxy it prints the median,
+the 99th percentile and the greatest of their times in milliseconds, counted from before the connect, how many got no
+answer within ten seconds, and how many slow clients were closed. PROGRAM serves with `--exchanges` (1,024) and
+`--body-rate` (500), and once more with a rate of 0, which closes none. nginx and HAProxy close none, because one of
+their threads serves many slow clients. It takes about a minute.
 
 Needs Debian's nginx-light and haproxy.
 """
@@ -155,11 +157,7 @@ def main() -> None:
                 words = ("--exchanges", str(given.exchanges), "--body-rate", str(rate))
                 it.gateway(f"admission, a rate of {rate}", TEXT, words)
             time.sleep(1.0)
-            rows = [
-                [name, *figures_of(target, given)]
-                for name, target in it.found.items()
-                if name != "origin alone"
-            ]
+            rows = [[name, *figures_of(target, given)] for name, target in it.found.items() if name != "origin alone"]
         finally:
             servers.end()
     columns = ["Proxy", "p50, ms", "p99, ms", "greatest, ms", "without an answer", "slow clients closed"]
