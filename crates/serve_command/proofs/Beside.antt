@@ -20,7 +20,7 @@ use Rattle.serve_command.specs.Beside.{AreServedBeside}
 use Rattle.serve_command.specs.Beside.{IsAdminBound, IsAdminServed, IsLookingAt, IsOperatingAt}
 use Rattle.serve_command.specs.Beside.{IsServedThere, IsStatusBound, IsStatusServed, LeavesAt}
 use Rattle.serve_command.specs.Beside.{ServesAt, StandsAt}
-use Rattle.serve_command.specs.Command.{IsBoundToo}
+use Rattle.serve_command.specs.Binding.{IsBoundToo}
 
 -- an operator's address that is bound
 pub bound_too : {L : Type 0} (Bound : List ℕ → L → Type 0) (admin : Option SocketAddrV4)

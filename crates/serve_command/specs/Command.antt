@@ -1,7 +1,6 @@
 -- What `serve` does.
 use Rattle.std.specs.Prelude.{◌≡◌, ◌⊎◌, ℕ, Bool, false, true, List, ◌++◌, Option, None, Some, IfSome, Ok}
 use Rattle.std.specs.declared.net.socket_addr.SocketAddrV4.{SocketAddrV4}
-use Rattle.std.specs.Net.Text.{socket_v4_text}
 use Rattle.counted_io.specs.Count.{raised}
 use Rattle.counted_io.specs.declared.counted.Counted.{Counted}
 use Rattle.counted_io.specs.Causes.{IsWriteCause}
@@ -25,6 +24,7 @@ use Rattle.serve_command.specs.declared.fault.ServiceFault.TheVariants as Servic
 use Rattle.gate_desk.specs.Desk.{IsDone}
 use Rattle.gate_desk.specs.State.{new_desk}
 use Rattle.serve_command.specs.Beside.{IsAdminServed, IsStatusServed}
+use Rattle.serve_command.specs.Binding.{IsBound, IsOfBinding}
 use Rattle.serve_command.specs.Descriptors.{LackDescriptors}
 use Rattle.serve_command.specs.GatewayRun.{AreCountersOfRuns, AreMiscounted}
 
@@ -33,18 +33,14 @@ abbrev pub AreOfFile : {F : Type 0} → (F → Type 0) → (F → Option (List �
 AreOfFile {F} Opened remaining s = (file : Counted F) × (bytes : List ℕ)
     × Opened (inner_of file) × Held remaining file bytes × Says bytes (Ok s)
 
--- a listener was bound at the address of this text
-abbrev pub IsBound : {L : Type 0} → (List ℕ → L → Type 0) → List ℕ → Type 0
-IsBound {L} Bound address = (listener : L) × Bound address listener
-
--- or at that of an operator, where there is one
-abbrev pub IsBoundToo : {L : Type 0} → (List ℕ → L → Type 0) → Option SocketAddrV4 → Type 0
-IsBoundToo Bound admin = IfSome admin (λ address. IsBound Bound (socket_v4_text address))
-
--- nothing could be bound at that of an operator
-abbrev pub IsUnboundToo : (List ℕ → Type 0) → Option SocketAddrV4 → Type 0
-IsUnboundToo Unbound None = ⊥
-IsUnboundToo Unbound (Some address) = Unbound (socket_v4_text address)
+-- SETTINGS TO SERVE BY: those of the file, or what they are for the number of exchanges that is
+-- given, which is enough for them
+pub record AreToServe {F : Type 0} (Opened : F → Type 0) (remaining : F → Option (List ℕ))
+    (exchanges : Option ℕ) (by : Settings) : Type 0 where
+  pub settings : Settings
+  pub of_file : AreOfFile Opened remaining settings
+  pub enough : AreEnoughFor exchanges settings
+  pub are : by ≡ settings_by exchanges settings
 
 -- SERVED BY SETTINGS, at their address, the operator's and that of whoever looks: a listener was
 -- bound at each. As many workers as the options say took their turns, each by these settings, with
@@ -95,18 +91,16 @@ Miscounts {L} Bound lost workers s =
     ((listener : L) × Bound s.listen listener × lost listener)
 
 -- A FAULT OF SERVING ITSELF, by the addresses, by how many threads were refused before and after,
--- and by what is miscounted: an address couldn't be bound, of clients, of the operator or of
--- whoever looks; or that of clients was, and memory was lacking, the system refused a thread, or
--- all have served, and the gate has other calls than these made, or counts others, or their
--- listener can't tell whom it gave
+-- and by what is miscounted: not all addresses were bound; or that of clients was, and memory was
+-- lacking, the system refused a thread, or all have served, and the gate has other calls than these
+-- made, or counts others, or their listener can't tell whom it gave
 abbrev pub IsOfServing : {L : Type 0} → (List ℕ → L → Type 0) → (List ℕ → Type 0)
     → List ℕ → Option SocketAddrV4 → Option SocketAddrV4 → ℕ → ℕ → Type 0 → ServiceFault → Type 0
 IsOfServing Bound Unbound listen admin status before after Off (Service.Config fault) = ⊥
 IsOfServing Bound Unbound listen admin status before after Off (Service.Exchanges few) = ⊥
 IsOfServing Bound Unbound listen admin status before after Off (Service.Descriptors few) = ⊥
 IsOfServing Bound Unbound listen admin status before after Off Service.Listen =
-    Unbound listen ⊎ (IsBound Bound listen × IsUnboundToo Unbound admin)
-    ⊎ (IsBound Bound listen × IsBoundToo Bound admin × IsUnboundToo Unbound status)
+    IsOfBinding Bound Unbound listen admin status Service.Listen
 IsOfServing Bound Unbound listen admin status before after Off Service.Memory =
     IsBound Bound listen
 IsOfServing Bound Unbound listen admin status before after Off Service.Thread =
@@ -115,37 +109,40 @@ IsOfServing Bound Unbound listen admin status before after Off Service.Miscounte
     IsBound Bound listen × Off
 IsOfServing Bound Unbound listen admin status before after Off Service.Write = ⊥
 
--- why an operator's address isn't had
-abbrev pub IsOfAdmin : (List ℕ → Type 0) → Option SocketAddrV4 → ServiceFault → Type 0
-IsOfAdmin Unbound admin (Service.Config fault) = ⊥
-IsOfAdmin Unbound admin (Service.Exchanges few) = ⊥
-IsOfAdmin Unbound admin (Service.Descriptors few) = ⊥
-IsOfAdmin Unbound admin Service.Listen = IsUnboundToo Unbound admin
-IsOfAdmin Unbound admin Service.Memory = Unit {0}
-IsOfAdmin Unbound admin Service.Thread = ⊥
-IsOfAdmin Unbound admin Service.Miscounted = ⊥
-IsOfAdmin Unbound admin Service.Write = ⊥
-
 -- settings of the file were had, with which this holds
 abbrev pub HadSettings : {F : Type 0} → (F → Type 0) → (F → Option (List ℕ))
     → (Settings → Type 0) → Type 0
 HadSettings Opened remaining Holds = (s : Settings) × AreOfFile Opened remaining s × Holds s
 
--- WHY NOT: the file couldn't be opened, or its settings weren't had; or they were had, and the
--- number of exchanges that is given isn't enough for them, which is told with the least that is, or
--- it wants more descriptors than are given; or serving by what they are for that number failed for
--- its own cause, or the counters of those who served couldn't be written. Before that nothing is
--- written
+-- WHY THERE ARE NO SETTINGS TO SERVE BY: the file couldn't be opened, or its settings weren't had;
+-- or they were had, and the number of exchanges that is given isn't enough for them, which is told
+-- with the least that is, or it wants more descriptors than are given
+abbrev pub IsOfSettings : {F : Type 0} → Type 0 → (F → Type 0) → (F → Option (List ℕ)) → Option ℕ
+    → ServiceFault → Type 0
+IsOfSettings {F} Unopened Opened remaining exchanges (Service.Config fault) =
+    ((fault ≡ File.Read) × Unopened)
+    ⊎ (before : Counted F) × (after : Counted F) × Opened (inner_of before)
+    × IsUnset remaining before after fault
+IsOfSettings Unopened Opened remaining exchanges (Service.Exchanges few) =
+    HadSettings Opened remaining (λ s. AreTooFew exchanges s few.wanted)
+IsOfSettings Unopened Opened remaining exchanges (Service.Descriptors few) =
+    HadSettings Opened remaining (λ s. LackDescriptors (settings_by exchanges s) few)
+IsOfSettings Unopened Opened remaining exchanges Service.Listen = ⊥
+IsOfSettings Unopened Opened remaining exchanges Service.Memory = ⊥
+IsOfSettings Unopened Opened remaining exchanges Service.Thread = ⊥
+IsOfSettings Unopened Opened remaining exchanges Service.Miscounted = ⊥
+IsOfSettings Unopened Opened remaining exchanges Service.Write = ⊥
+
+-- WHY NOT: there are no settings to serve by; or serving by them failed for its own cause, or the
+-- counters of those who served couldn't be written. Before that nothing is written
 abbrev pub IsWhyOfService : {F W : Type 0} → Type 0 → (F → Type 0) → (F → Option (List ℕ))
     → Option ℕ → (Settings → ServiceFault → Type 0) → Counted W → Counted W → ServiceFault → Type 0
-IsWhyOfService {F} Unopened Opened remaining exchanges OfServing old new (Service.Config fault) =
-    (new ≡ old) × (((fault ≡ File.Read) × Unopened)
-    ⊎ (before : Counted F) × (after : Counted F) × Opened (inner_of before)
-    × IsUnset remaining before after fault)
+IsWhyOfService Unopened Opened remaining exchanges OfServing old new (Service.Config fault) =
+    (new ≡ old) × IsOfSettings Unopened Opened remaining exchanges (Service.Config fault)
 IsWhyOfService Unopened Opened remaining exchanges OfServing old new (Service.Exchanges few) =
-    (new ≡ old) × HadSettings Opened remaining (λ s. AreTooFew exchanges s few.wanted)
+    (new ≡ old) × IsOfSettings Unopened Opened remaining exchanges (Service.Exchanges few)
 IsWhyOfService Unopened Opened remaining exchanges OfServing old new (Service.Descriptors few) =
-    (new ≡ old) × HadSettings Opened remaining (λ s. LackDescriptors (settings_by exchanges s) few)
+    (new ≡ old) × IsOfSettings Unopened Opened remaining exchanges (Service.Descriptors few)
 IsWhyOfService Unopened Opened remaining exchanges OfServing old new Service.Write =
     IsWriteCause old new × HadSettings Opened remaining (λ _. Unit {0})
 IsWhyOfService Unopened Opened remaining exchanges OfServing old new fault =

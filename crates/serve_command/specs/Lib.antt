@@ -1,4 +1,5 @@
 pub mod Beside
+pub mod Binding
 pub mod Clients
 pub mod Command
 pub mod Descriptors

@@ -1,5 +1,5 @@
 // What a gateway stands on while it serves.
-ghost use Rattle.std.specs.Prelude.{◌≡◌, ◌≤◌, IfNone, IfOk, IfSome, IsErrOf, option_map};
+ghost use Rattle.std.specs.Prelude.{◌≡◌, ◌≤◌, IfErr, IfNone, IfOk, IfSome, IsErrOf, option_map};
 ghost use Rattle.counted_io.specs.Count.{raised};
 ghost use Rattle.tasks.specs.Refused.{refused_of};
 ghost use Rattle.limit_kinds.specs.AnyKinds.{any_rules};
@@ -9,23 +9,30 @@ ghost use Rattle.commands.specs.ServeOptions.{threads_of};
 ghost use Rattle.gate_opening.specs.Opening.{making_of};
 ghost use Rattle.serving.specs.Served.{policy_of};
 ghost use Rattle.gate_desk.specs.State.{new_desk};
+ghost use Rattle.serve_command.specs.declared.fault.ServiceFault.TheVariants.{Memory};
 ghost use Rattle.serve_command.specs.GatewayRun.{AreMiscounted, HasServedAt};
 
-use crate::admin::{AdminAddress, SideAddresses};
-use crate::gateway::{Gateway, serve_gateway};
+use crate::admin::SideAddresses;
+use crate::binding::BoundAddresses;
+use crate::fault::ServiceFault;
+use crate::gateway::{Gateway, serve_named};
 use crate::gateway_watch::GatewayWatch;
 use crate::parent::ParentProcess;
 use body_memory::SharedBodies;
 use clocks::ProgramClock;
 use commands::ServeOptions;
 use gate_desk::LameDuck;
+use gate_history::Blanks;
 use gateway_settings::Settings;
+use limit_laws::Limit;
 use limiter_core::Counters;
 use listening::Closable;
 use log::Log;
-use serve_reports::Watcher;
+use serve_reports::{LimitRange, Watcher};
 use serving::{ServeFault, WorkerSettings};
+use shared_gate::LogLength;
 use std::alloc::{AllocError, Global};
+use std::marker::Brand;
 use std::net::Net;
 use std::sync::Wait;
 use std::thread::Threads;
@@ -42,12 +49,8 @@ const MILLI: u64 = 1_000_000;
 /// What is had before a gate is opened, and outlasts it.
 #[derive(Drop)]
 pub(crate) struct ServeContext<'a, R: SystemClock, L> {
-    /// Where clients come from.
-    pub(crate) front: &'a L,
-    /// Where an operator comes from, where there is an address for one.
-    pub(crate) admin: &'a Option<AdminAddress<L>>,
-    /// Where whoever looks comes from, where there is an address for that.
-    pub(crate) status: &'a Option<L>,
+    /// What listens at each of the gateway's addresses.
+    pub(crate) bound: &'a BoundAddresses<L>,
     /// What the configuration says.
     pub(crate) settings: &'a Settings,
     /// The clock of the gate's moments and of deadlines.
@@ -83,28 +86,28 @@ where
         (making_of (threads_of service.now) context.now.settings.now) L.closed L.came L.found
         L.gave
         (policy_of context.now.settings.now service.now.marks)
-        (new_desk context.now.settings.now.table context.now.front.now) context.now.admin.now
-        context.now.status.now (threads_of service.now) service.now.per_worker)) }
+        (new_desk context.now.settings.now.table context.now.bound.now.front)
+        context.now.bound.now.admin context.now.bound.now.status (threads_of service.now)
+        service.now.per_worker)) }
     ensures miscounted { IfOk result (λ told. IfNone told (AreMiscounted any_rules
         (making_of (threads_of service.now) context.now.settings.now) (threads_of service.now)
-        (L.lost context.now.front.now))) }
+        (L.lost context.now.bound.now.front))) }
     ensures thread { IsErrOf result ServeFault.Thread →
         refused_of spawner.new ≡ raised (refused_of spawner.old) }
 {
-    let client_timeout_ns = u64::from(service.client_timeout_ms) * MILLI;
-    let (alloc, clock) = (context.alloc, context.clock);
-    let (admin, status) = (context.admin, context.status);
+    let (alloc, bound, clock) = (context.alloc, context.bound, context.clock);
     let shared = SharedLimits::new(alloc, context.settings, service)?;
-    let side = SideAddresses::new(alloc, admin, status, clock, context.lame_duck);
+    let side = SideAddresses::new(alloc, &bound.admin, &bound.status, clock, context.lame_duck);
+    let client_timeout_ns = u64::from(service.client_timeout_ms) * MILLI;
     let watch = GatewayWatch {
         rt,
         watcher: context.watch,
-        front: context.front,
+        front: &bound.front,
         parent: service.parent,
         most: Duration::from_nanos(client_timeout_ns),
     };
     let common = WorkerSettings {
-        listener: context.front,
+        listener: &bound.front,
         settings: context.settings,
         clock,
         per_worker: u64::from(service.per_worker),
@@ -125,7 +128,33 @@ where
         workers: service.threads(),
         side: &side,
     };
-    serve_gateway(spawner, &gateway)
+    let word = LogLength::new(alloc)?;
+    let others = side.count() + 1;
+    serve_named::<Brand, _, _, _>(spawner, &gateway, Blanks::new(), word, others)
+}
+
+/// What notes and logs what happens. It fails only out of memory.
+pub(crate) fn make_watch<'a, R: SystemClock>(
+    rt: &'a R,
+    alloc: Global,
+    clock: &'a ProgramClock<&'a R>,
+    settings: &Settings,
+    service: &ServeOptions<'_>,
+) -> Result<Watcher<'a, R>, ServiceFault>
+    requires sound { AreSound settings.now }
+    ensures lacking { IfErr result (λ fault. fault ≡ Memory) }
+{
+    let workers = service.threads();
+    let limit = settings.limit_for(workers);
+    let range = LimitRange {
+        kind: settings.limit.kind().word(),
+        least: limit.lo(),
+        greatest: limit.hi(),
+    };
+    match Watcher::new(rt, alloc, clock, range, workers, service.report_seconds) {
+        Ok(watch) => Ok(watch),
+        Err(_) => Err(ServiceFault::Memory),
+    }
 }
 
 /// What bounds the bodies of all exchanges together.

@@ -38,7 +38,6 @@ use serve_reports::Watcher;
 use serving::{JobResult, ServeFault, WorkerSettings, serve};
 use shared_gate::{GateNaming, LogLength, Pass, SharedGate};
 use std::alloc::AllocError;
-use std::marker::Brand;
 use std::net::Net;
 use std::sync::Wait;
 use std::thread::Threads;
@@ -60,44 +59,10 @@ pub(crate) struct Gateway<'g, R: SystemClock, L, C> {
 
 /// Serves clients through the gate of the gateway's settings, by its workers, and tells the gate's
 /// counters once all have ended; or none, where it has calls that nobody made who served, where
-/// these tell of others than the workers made, or where the listener can't tell whom it gave.
-pub(crate) fn serve_gateway<R, L, C>(
-    spawner: &mut Spawner<'_, R>,
-    gateway: &Gateway<'_, R, L, C>,
-) -> Result<Option<Counters>, ServeFault>
-where
-    R: Net + Threads + Wait + SystemClock + Log + ParentProcess + Sync,
-    L: Closable + Sync,
-    C: Clock + Sync,
-    L::Stream: Send + Sync + Drop,
-    L::From: Send + Sync,
-    L::To: Send + Sync,
-    L::Token: Send + Sync,
-    R::Stream: Send + Sync,
-    R::Listener: Send + Sync,
-    requires sound { AreSound gateway.now.common.now.settings.now }
-    requires few { gateway.now.workers ≤ 4096 }
-    ensures served { IfOk result (λ told. IfSome told (HasServedAll any_rules
-        (making_of gateway.now.workers gateway.now.common.now.settings.now) L.closed L.came L.found
-        L.gave
-        (policy_of gateway.now.common.now.settings.now gateway.now.common.now.marks)
-        (new_desk gateway.now.common.now.settings.now.table gateway.now.common.now.listener.now)
-        gateway.now.side.now gateway.now.workers gateway.now.common.now.per_worker)) }
-    ensures miscounted { IfOk result (λ told. IfNone told (AreMiscounted any_rules
-        (making_of gateway.now.workers gateway.now.common.now.settings.now) gateway.now.workers
-        (L.lost gateway.now.common.now.listener.now))) }
-    ensures thread { IsErrOf result ServeFault.Thread →
-        refused_of spawner.new ≡ raised (refused_of spawner.old) }
-{
-    let word = LogLength::new(gateway.common.alloc)?;
-    let blanks = Blanks::new();
-    let others = gateway.side.count() + 1;
-    serve_named::<Brand, R, L, C>(spawner, gateway, blanks, word, others)
-}
-
-/// Serves clients through the gate of the gateway's settings, which has these names, with so many
-/// passes beside those of its workers: one for each who serves beside them, and one for reports.
-fn serve_named<M, R, L, C>(
+/// these tell of others than the workers made, or where the listener can't tell whom it gave. The
+/// gate has these names, and so many passes beside those of its workers: one for each who serves
+/// beside them, and one for reports.
+pub(crate) fn serve_named<M, R, L, C>(
     spawner: &mut Spawner<'_, R>,
     gateway: &Gateway<'_, R, L, C>,
     blanks: Blanks,

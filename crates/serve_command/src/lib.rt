@@ -7,6 +7,7 @@
 #![tactic(auto)]
 
 mod admin;
+mod binding;
 mod command;
 mod context;
 mod descriptors;
@@ -19,6 +20,7 @@ mod moment;
 mod operators;
 mod parent;
 mod priority;
+mod reading;
 mod runtime;
 mod stacks;
 mod startup_lines;

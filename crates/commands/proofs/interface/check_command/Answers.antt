@@ -8,7 +8,8 @@ pub returns : goal.returns
 returns c =
     let explained =
     c.with_argument-check.ensures (with_rule (new_app (codes "check")) config_rule) explain_rule
-    (c.configured-check.ensures (new_app (codes "check")) c.described.ensures) c.explain_flag.ensures.rule c.explain_flag.ensures.local in
+    (c.configured-check.ensures (new_app (codes "check")) c.described.ensures)
+    c.explain_flag.ensures.rule c.explain_flag.ensures.local in
     c.with_argument.ensures
     (with_rule (with_rule (new_app (codes "check")) config_rule) explain_rule) exchanges_rule
     explained c.argument.ensures.rule c.argument.ensures.local

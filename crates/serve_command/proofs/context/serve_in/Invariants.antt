@@ -3,7 +3,7 @@ use Rattle.limit_kinds.specs.AnyKinds.{any_rules}
 use Rattle.gate_ledgers.specs.Names.{places_of}
 use Rattle.gate_opening.specs.Opening.{journal_of, making_of}
 use Rattle.shared_gate.specs.Log.{IsLegalFrom}
-use Rattle.serve_command.proofs.gateway.serve_gateway.Given as goal
+use Rattle.serve_command.proofs.context.serve_in.Given as goal
 
 -- the ledgers that were just made, of a gate of the settings
 abbrev pub ghosts-serve_named-M-Naming : goal.ghosts-serve_named-M-Naming

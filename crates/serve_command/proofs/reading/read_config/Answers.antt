@@ -1,5 +1,5 @@
 use Rattle.std.proofs.Common.{rules}
-use Rattle.serve_command.proofs.command.read_config.Goals as goal
+use Rattle.serve_command.proofs.reading.read_config.Goals as goal
 
 pub returns-in-Ok-clause-text : goal.returns-in-Ok-clause-text
 returns-in-Ok-clause-text c = search rules
