@@ -1,3 +1,4 @@
+pub mod Openings
 pub mod Passed
 pub mod Permits
 pub mod Progress

@@ -8,6 +8,8 @@ use Rattle.counted_io.specs.Counted.{failures_of, is_flushed}
 use Rattle.body_pieces.specs.declared.rest.Rest.{Rest}
 use Rattle.body_pieces.specs.Beginnings.{GaveBeginning, GaveFault}
 use Rattle.body_pieces.specs.Rests.{IsRest}
+use Rattle.answer_streaming.specs.declared.backend.BodyEnd.{BodyEnd}
+use Rattle.answer_streaming.specs.declared.backend.BodyEnd.TheVariants.{Ahead, Reached}
 use Rattle.answer_streaming.specs.declared.delimiting.Delimiting.{Delimiting}
 use Rattle.answer_streaming.specs.declared.ended.End.{End}
 use Rattle.answer_streaming.specs.declared.ended.End.TheVariants.{Whole, Unwritten, Broken, Left}
@@ -70,3 +72,12 @@ HasPassedCause (Read body) old new held holds =
     (failures_of new ≡ failures_of old) × (holds ≡ held)
 HasPassedCause (Unread f) old new held holds = HasReadCause f old new × (holds ≡ held)
 HasPassedCause (Streamed end) old new held holds = HasCause end old new held holds
+
+-- HOW FAR the body was read: to its end, unless it broke or the writer failed before
+abbrev pub body_end_of : Passed → BodyEnd
+body_end_of (Read body) = Reached
+body_end_of (Unread f) = Ahead
+body_end_of (Streamed Whole) = Reached
+body_end_of (Streamed Unwritten) = Reached
+body_end_of (Streamed (Broken f)) = Ahead
+body_end_of (Streamed Left) = Ahead

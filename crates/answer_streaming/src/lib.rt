@@ -12,11 +12,15 @@
 //! milliseconds in all. Each look knows a [`Progress`], which shows after how many reads and writes
 //! it came.
 //!
+//! A [`StreamingBackend`] is where such an answer comes from: it hands out an answer as soon as its
+//! head was read, as a [`BegunAnswer`], and takes it back with a [`BodyEnd`].
+//!
 //! `specs/Texts.antt` defines what is written, `specs/Passed.antt` what was read and written,
-//! `specs/Waits.antt` for how long the client was waited for, and `specs/Permits.antt` how the
-//! permit is ended.
+//! `specs/Waits.antt` for how long the client was waited for, `specs/Permits.antt` how the permit
+//! is ended, and `specs/Openings.antt` what a backend was given and gave.
 #![tactic(auto)]
 
+mod backend;
 mod chunk;
 mod delimiting;
 mod ended;
@@ -28,6 +32,7 @@ mod streaming;
 mod taken;
 mod waiting;
 
+pub use backend::{BegunAnswer, BodyEnd, Opened, StreamingBackend};
 pub use delimiting::{Delimiting, delimiting_for, finish, write_piece};
 pub use ended::{End, Passed};
 pub use passing::{StreamedAnswer, pass_on};
