@@ -4,6 +4,7 @@ import os
 import pathlib
 import queue
 import re
+import selectors
 import socket
 import struct
 import subprocess
@@ -176,6 +177,56 @@ class Backend(Listener):
     def close(self) -> None:
         self.release.set()
         super().close()
+
+
+class Crowded:
+    """A backend that holds many requests back until it is told to answer them, all on one thread. With a thread for
+    each, a thousand answers wait one behind another for the interpreter and for a processor: on two processors that
+    takes 6 seconds beside four busy programs, and 24 beside sixteen."""
+
+    def __init__(self, backlog: int) -> None:
+        self.held = threading.Semaphore(0)
+        self.socket = socket.create_server(("127.0.0.1", 0), backlog=backlog)
+        self.port: int = self.socket.getsockname()[1]
+        self.word, self.heard = socket.socketpair()
+        self.thread = threading.Thread(target=self.serve, daemon=True)
+        self.thread.start()
+
+    def serve(self) -> None:
+        with contextlib.ExitStack() as stack, selectors.DefaultSelector() as ready:
+            for it in (self.socket, self.heard):
+                ready.register(it, selectors.EVENT_READ, it)
+            asked: dict[socket.socket, bytes] = {}
+            while self.heard not in (chosen := [key.data for key, _ in ready.select()]):
+                for it in chosen:
+                    if it is self.socket:
+                        client = stack.enter_context(self.socket.accept()[0])
+                        asked[client] = b""
+                        ready.register(client, selectors.EVENT_READ, client)
+                    elif self.is_over(it, asked):
+                        ready.unregister(it)
+            for client, text in asked.items():
+                if text.endswith(b"\r\n\r\n"):
+                    with contextlib.suppress(OSError):
+                        client.sendall(WHOLE["length"])
+
+    def is_over(self, client: socket.socket, asked: dict[socket.socket, bytes]) -> bool:
+        """Reads on from a client, and says whether it has sent its request, or sends no more."""
+        piece = client.recv(65536)
+        asked[client] += piece
+        if is_whole := asked[client].endswith(b"\r\n\r\n"):
+            self.held.release()
+        return is_whole or not piece
+
+    def answer(self) -> None:
+        """Answers all requests that are held back; no further one is."""
+        self.word.close()
+
+    def close(self) -> None:
+        self.answer()
+        self.thread.join(PATIENCE)
+        self.socket.close()
+        self.heard.close()
 
 
 class Gateway:
