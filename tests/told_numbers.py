@@ -35,10 +35,11 @@ def packaged(pattern: str, file: str = UNIT) -> Callable[[], float]:
 
 
 OPERATING, FORMATS, RUNBOOK = "docs/OPERATING.md", "docs/FORMATS.md", "docs/RUNBOOK.md"
-KUBERNETES = "docs/KUBERNETES.md"
+KUBERNETES, MANUAL = "docs/KUBERNETES.md", "packaging/admission.1"
 BODY = constant("message_fields/src/length.rt", "MOST_BODY", 2**20)
 HEAD = constant("message_reading/src/head_cut.rt", "MOST_HEAD")
 LINES = constant("message_reading/src/head_lines.rt", "MOST_LINES")
+INTERIM = constant("message_reading/src/final_head.rt", "MOST_INTERIM")
 LINGERS = constant("timed_io/src/lingering.rt", "LONGEST_NS", 1e9)
 PLACES = constant("serve_command/src/context.rt", "CLIENT_PLACES")
 OTHERS = constant("serving/src/workers.rt", "OTHER_DESCRIPTORS")
@@ -82,14 +83,9 @@ def slowest_upload() -> float:
     return -(-BODY() * 2**20 // 10_000 // 10) * 10
 
 
-def descriptors_without_kept() -> float:
-    """The descriptors that a start wants for the packaged exchanges, where no connection is kept."""
-    return 2 * EXCHANGES() + constant("serve_command/src/descriptors.rt", "OWN")()
-
-
 def descriptors_wanted() -> float:
-    """The same with the packaged number of connections to the backend."""
-    return descriptors_without_kept() + BACKENDS()
+    """The descriptors that a start wants for the packaged exchanges and connections to the backend."""
+    return 2 * EXCHANGES() + constant("serve_command/src/descriptors.rt", "OWN")() + BACKENDS()
 
 
 def descriptors_of_clients() -> float:
@@ -269,20 +265,15 @@ NUMBERS: tuple[tuple[str, str, tuple[Callable[[], float], ...]], ...] = (
     (OPERATING, r"`--status 0\.0\.0\.0:(\d+)`", (STATUS,)),
     (FORMATS, r"So for `localhost:(\d+)`", (ADMIN,)),
     (OPERATING, r"`admission: descriptors: (\d+) are wanted, (\d+) are given`", (descriptors_wanted, EXCHANGES)),
-    (KUBERNETES, r"`admission: descriptors: (\d+) are wanted`", (descriptors_wanted,)),
     (
         KUBERNETES,
-        r"With ([\d,]+) exchanges and `backends = (\d+)` the gateway needs ([\d,]+) descriptors, or ([\d,]+) without",
-        (EXCHANGES, BACKENDS, descriptors_wanted, descriptors_without_kept),
+        r"With ([\d,]+) exchanges and `backends = (\d+)` the gateway needs ([\d,]+) descriptors, and ([\d,]+) to keep "
+        r"([\d,]+) idle clients",
+        (EXCHANGES, BACKENDS, descriptors_wanted, descriptors_of_clients, CLIENTS),
     ),
-    (KUBERNETES, r"To\s+keep ([\d,]+) idle clients open as well, it needs ([\d,]+)", (CLIENTS, descriptors_of_clients)),
     (KUBERNETES, r"([\d,]+) exchanges need ([\d,]+) threads", (EXCHANGES, threads)),
-    (
-        KUBERNETES,
-        r"All bodies together may have ([\d,]+) MiB, .*\s+([\d,]+) exchanges could hold (\d+) GiB",
-        (BODIES, EXCHANGES, greatest_bodies),
-    ),
-    (KUBERNETES, r"The manifests' limit, (\d+)Mi, is twice that bound", (MEMORY,)),
+    (OPERATING, r"so ([\d,]+) exchanges may hold (\d+) GiB", (EXCHANGES, greatest_bodies)),
+    (KUBERNETES, r"The manifests' limit, (\d+)Mi, is that of the unit", (MEMORY,)),
     (KUBERNETES, r"(\d+)` fits (\d+)Mi", (lambda: 128.0, lambda: 2 * 128 + EXCHANGES() / 2)),
     (KUBERNETES, r"--exchanges (\d+) --status", (EXCHANGES,)),
     ("README.md", r"([\d,]+) as packaged, and up to", (EXCHANGES,)),
