@@ -113,22 +113,12 @@ def longest_call() -> float:
     return (LIMIT_MS() + packaged(r"(?m)^# timeout_ms = ([\d_]+)$", "packaging/admission.toml")()) / 1_000
 
 
-def of_examples() -> float:
-    return sum(1 for it in (TOP / "examples").rglob("*") if it.is_file())
-
-
-def of_installed() -> float:
-    """All that is installed: the examples, and as many more as `tests/install` counts."""
-    return of_examples() + packaged(r"(?m)^all=.*-type f \| wc -l\) \+ (\d+)\)\)$", "tests/install")()
-
-
 # A document, a sentence with a number in each of its groups, and what the numbers are.
 NUMBERS: tuple[tuple[str, str, tuple[Callable[[], float], ...]], ...] = (
-    (OPERATING, r"It lists (\d+) files, (\d+) of them examples", (of_installed, of_examples)),
     (OPERATING, r"serves up to ([\d,]+) exchanges at once as an unprivileged user", (EXCHANGES,)),
     (OPERATING, r"`admission serve CONFIG --exchanges (\d+)` \|", (EXCHANGES,)),
-    (OPERATING, r"The unit and the container set ([\d,]+)\. It is the number", (EXCHANGES,)),
-    (OPERATING, r"the manifests for Kubernetes set N to ([\d,]+)", (EXCHANGES,)),
+    (OPERATING, r"The unit and the container set ([\d,]+)\. \|", (EXCHANGES,)),
+    (OPERATING, r"The manifests for Kubernetes set N to ([\d,]+)", (EXCHANGES,)),
     (OPERATING, r"`TasksMax` \| N \+ 64 \| ([\d,]+) \| ([\d,]+) \|", (lambda: EXCHANGES() + 64, TASKS)),
     (
         OPERATING,
@@ -143,8 +133,6 @@ NUMBERS: tuple[tuple[str, str, tuple[Callable[[], float], ...]], ...] = (
     (OPERATING, r"With ([\d,]+) exchanges and a backlog of 10 that is ([\d,]+)", (EXCHANGES, lambda: EXCHANGES() - 11)),
     (OPERATING, r"for the client timeout: ([\d,]+) of them would hold", (EXCHANGES,)),
     (OPERATING, r"starts the program again (\w+) seconds after any end", (RESTARTS,)),
-    (OPERATING, r"for (\w+) seconds `/health` is 503 while clients", (AFTER,)),
-    (OPERATING, r"last longer than (\d+) seconds are cut off", (WAIT,)),
     (
         OPERATING,
         r"With ([\d,]+) exchanges at once and 7,000 requests a second the default lasts ([\d,]+) days",
@@ -154,10 +142,9 @@ NUMBERS: tuple[tuple[str, str, tuple[Callable[[], float], ...]], ...] = (
     (OPERATING, r"up to (\d+) MiB each way. A slow upload of (\d+) MiB needs (\d+) kB/s", (BODY, BODY, slowest_upload)),
     (OPERATING, r"They\s+share ([\d,]+) places", (PLACES,)),
     (OPERATING, r"fewer\s+descriptors than these, two for\s+each\s+worker, (\d+), and `backends`", (OTHERS,)),
-    (OPERATING, r"closed after its response, and ([\d,]+) may be open", (PLACES,)),
     ("docs/TUNING.md", r"Then none is kept, and ([\d,]+)\s+may wait", (PLACES,)),
     (OPERATING, r"connected within the last (\w+) second may still", (NEWCOMER,)),
-    (OPERATING, r"may go on sending for T more, (\w+) seconds at most", (LINGERS,)),
+    (OPERATING, r"may go on sending for the client timeout, (\w+) seconds at most", (LINGERS,)),
     (OPERATING, r"is noticed in about (\w+) seconds", (seconds_unasked,)),
     (
         OPERATING,
@@ -166,16 +153,16 @@ NUMBERS: tuple[tuple[str, str, tuple[Callable[[], float], ...]], ...] = (
     ),
     (OPERATING, r"draws the last (\w+) minutes", (minutes_kept,)),
     (OPERATING, r"and so are new ones in the first (\w+) second", (OPEN,)),
-    (OPERATING, r"the unit starts the program again (\w+) seconds later", (RESTARTS,)),
-    (OPERATING, r"\[\[class\]\]`, at most (\w+)", (constant("partitions/src/table.rt", "MOST_KNOWN"),)),
-    (OPERATING, r"\[\[resolver\]\]`, at most (\w+)", (constant("gate_config/src/document.rt", "MOST_RULES"),)),
-    (OPERATING, r"\[\[bypass\]\]`, at most (\w+)", (constant("gate_config/src/document.rt", "MOST_RULES"),)),
-    (OPERATING, r"a table of at most (\d+) patterns", (constant("gate_config/src/resolver.rt", "MOST_ROUTES"),)),
-    (
-        OPERATING,
-        r"a limit above (\d+), which is never reached",
-        (constant("config_explain/src/settings.rt", "MOST_WORKERS"),),
-    ),
+    (MANUAL, r"\[\[class\]\], at most (\w+)", (constant("partitions/src/table.rt", "MOST_KNOWN"),)),
+    (MANUAL, r"\[\[resolver\]\], at most (\w+)", (constant("gate_config/src/document.rt", "MOST_RULES"),)),
+    (MANUAL, r"\[\[bypass\]\], at most (\w+)", (constant("gate_config/src/document.rt", "MOST_RULES"),)),
+    (MANUAL, r"a table of at most (\d+) patterns", (constant("gate_config/src/resolver.rt", "MOST_ROUTES"),)),
+    (MANUAL, r"answer is unreadable, cut off or above (\d+) MiB", (BODY,)),
+    (MANUAL, r"the request's body is above (\d+) MiB", (BODY,)),
+    (MANUAL, r"the request's head is above (\d+) KiB or (\d+) lines", (lambda: HEAD() / 1024, LINES)),
+    (MANUAL, r"The text has more than (\d+) MiB", (constant("load_driver/src/driver.rt", "MOST_BYTES", 2**20),)),
+    (MANUAL, r"be read, or has more than (\d+) MiB", (constant("config_file/src/reading.rt", "MOST_CONFIG", 2**20),)),
+    (MANUAL, r"Heads with 100 or 102 to 199 in front of an answer, (\d+) at most", (INTERIM,)),
     (FORMATS, r"at most one line comes in (\w+) seconds", (SPELL,)),
     (
         FORMATS,
