@@ -173,11 +173,6 @@ NUMBERS: tuple[tuple[str, str, tuple[Callable[[], float], ...]], ...] = (
         ),
     ),
     (FORMATS, r"or `too slow` after ([\d,]+) reads", (constant("wire/src/request_reading.rt", "MOST_READS"),)),
-    (
-        FORMATS,
-        r"it has more than (\d+) bytes, or doesn't end",
-        (constant("config_file/src/reading.rt", "MOST_CONFIG"),),
-    ),
     (FORMATS, r"isn't `after-ms=N` with N from (\d+) to ([\d,]+) \|", (lambda: 1.0, DELAY)),
     (
         FORMATS,
@@ -185,7 +180,7 @@ NUMBERS: tuple[tuple[str, str, tuple[Callable[[], float], ...]], ...] = (
         (AT_ONCE, OPERATOR, OPERATOR),
     ),
     (FORMATS, r"at most ([\d,]+) bytes, and ([\d,]+) lines after the first", (HEAD, LINES)),
-    (FORMATS, r"At most (\d+) heads with 100", (constant("message_reading/src/final_head.rt", "MOST_INTERIM"),)),
+    (FORMATS, r"At most (\d+) heads with 100", (INTERIM,)),
     (FORMATS, r"one string of digits; at most ([\d,]+)", (constant("message_fields/src/length.rt", "MOST_BODY"),)),
     (
         FORMATS,
@@ -204,13 +199,7 @@ NUMBERS: tuple[tuple[str, str, tuple[Callable[[], float], ...]], ...] = (
         r"`TurnLimit` \(([\d,]+) reads for one message\)",
         (constant("wire/src/request_reading.rt", "MOST_READS"),),
     ),
-    (FORMATS, r"wasn't at its end after ([\d,]+) reads", (constant("load_driver/src/driver.rt", "MOST_READS"),)),
-    (FORMATS, r"there are more than ([\d,]+) bytes", (constant("load_driver/src/driver.rt", "MOST_BYTES"),)),
-    (
-        FORMATS,
-        r"can't be read, or has more than (\d+) MiB",
-        (constant("config_file/src/reading.rt", "MOST_CONFIG", 2**20),),
-    ),
+    (FORMATS, r"A script has at most (\d+) MiB", (constant("load_driver/src/driver.rt", "MOST_BYTES", 2**20),)),
     (RUNBOOK, r"`/health` is 503 for (\w+) seconds while clients are still", (AFTER,)),
     (
         RUNBOOK,
