@@ -252,10 +252,11 @@ class Started:
         is_kept: bool = False,
         program: str = "",
     ) -> None:
-        """A gateway of so many workers, with these keys of connections that are kept."""
-        text = CONFIG.replace("{limit}", "1" if self.given.refused else "64")
+        """A gateway of so many workers, or of exchanges above 64, with these keys of connections that are kept."""
+        option, most = ("--workers", 64) if count <= 64 else ("--exchanges", count // 2)
+        text = CONFIG.replace("{limit}", "1" if self.given.refused else str(most))
         text = text.replace("version = 1\n", f"version = 2\n{keys}", 1) if keys else text
-        self.gateway(name, text, ("--workers", str(count)), policy, is_kept, program)
+        self.gateway(name, text, (option, str(count)), policy, is_kept, program)
 
     def gateway(
         self,

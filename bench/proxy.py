@@ -7,12 +7,12 @@
     bench/proxy.py --from FILE
 
 It starts an origin (nginx, which answers 13 bytes from memory), nginx and HAProxy as proxies, PROGRAM (built), once for
-each number of workers W (by default 64), and a bare proxy of as many threads (`bare_proxy.rs`, plain Rust, which checks
-nothing: the limit of this form, and no competitor), on loopback ports below the ephemeral range. Every request has its
-own connection on both sides, but for those that are called kept, which keep both (a bare one is `bare_kept.rs`), and
-those with the origin kept, which keep that side. --further names one more proxy that keeps both: its words are where it
-listens, where the origin is, and the number of workers. --before names an earlier build of `admission`, which has rows
-of its own. --only has the rows whose name has one of these words.
+each number of workers W (by default 64; above that, exchanges at once), and a bare proxy of as many threads
+(`bare_proxy.rs`, plain Rust, which checks nothing: the limit of this form, and no competitor), on loopback ports below
+the ephemeral range. Every request has its own connection on both sides, but for those that are called kept, which keep
+both (a bare one is `bare_kept.rs`), and those with the origin kept, which keep that side. --further names one more
+proxy that keeps both: its words are where it listens, where the origin is, and the number of workers. --before names an
+earlier build of `admission`, which has rows of its own. --only has the rows whose name has one of these words.
 
 Everything runs on the same processors, since on a shared machine a program with more threads gets more of it: on one of
 them, or on those of --processors. For each number of clients every round runs `wrk` against each proxy in turn, for S
